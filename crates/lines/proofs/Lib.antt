@@ -1,0 +1,5 @@
+pub mod Added
+pub mod Agree
+pub mod Decimal
+pub mod Runs
+pub mod Trip

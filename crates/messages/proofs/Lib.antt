@@ -1,0 +1,5 @@
+pub mod Bounds
+pub mod Decided
+pub mod Pieces
+pub mod Short
+pub mod Trip

@@ -1,0 +1,80 @@
+// One line of the report: what a wire line says, or why it is no message.
+use crate::words;
+use answers::Cause;
+use lines::Draft;
+use lines::LineFault;
+use messages::Key;
+use messages::Kind;
+use messages::Message;
+use messages::Service;
+use messages::Unread;
+use messages::Values;
+
+// The longest report of a line is some 120 bytes.
+pub type Report = Draft<160>;
+
+pub fn of_line(number: u64, read: Result<Message, Unread>) -> Report {
+    let mut report = Report::new();
+    report.push_text(b"line ");
+    report.push_number(number);
+    report.push_text(b": ");
+    match read {
+        Ok(message) => say_message(&mut report, &message.values()),
+        Err(unread) => say_refusal(&mut report, &unread),
+    }
+    report.push(b'\n');
+    report
+}
+
+// The kind, the transaction, and what the kind uses.
+fn say_message(report: &mut Report, values: &Values) {
+    report.push_text(words::of_kind(values.kind));
+    say_number(report, b", transaction ", values.tn);
+    match values.kind {
+        Kind::Request => say_request(report, values),
+        Kind::Result | Kind::CallBusy => say_retention(report, values.retention),
+        Kind::Cancel | Kind::Error => say_cause(report, values.cause),
+        _ => {}
+    }
+}
+
+fn say_request(report: &mut Report, values: &Values) {
+    say_number(report, b", user ", u32::from(values.user));
+    say_number(report, b", destination ", u32::from(values.destination));
+    report.push_text(b", ");
+    report.push_text(words::of_service(Service::of(values.service)));
+    say_retention(report, values.retention);
+}
+
+fn say_retention(report: &mut Report, retention: u8) {
+    report.push_text(if retention == 1 { b", retained" } else { b", not retained" });
+}
+
+fn say_cause(report: &mut Report, cause: u8) {
+    say_number(report, b", cause ", u32::from(cause));
+    report.push_text(b", ");
+    report.push_text(words::of_cause(Cause::of(cause)));
+}
+
+fn say_refusal(report: &mut Report, unread: &Unread) {
+    say_number(report, b"refused ", u32::from(unread.denial().number()));
+    match unread {
+        Unread::NotLawful => report.push_text(b", a line but no lawful message"),
+        Unread::NotALine(fault) => say_fault(report, fault),
+    }
+}
+
+fn say_fault(report: &mut Report, line: &LineFault<Key>) {
+    say_number(report, b", no line: cause ", u32::from(line.fault.cause()));
+    report.push_text(b", ");
+    report.push_text(words::of_fault(&line.fault));
+    report.push_text(b", at key ");
+    report.push_text(words::of_key(line.key));
+    report.push_text(b", byte ");
+    report.push_number(line.fault.at() as u64);
+}
+
+fn say_number(report: &mut Report, text: &[u8], number: u32) {
+    report.push_text(text);
+    report.push_number(u64::from(number));
+}
