@@ -2,7 +2,9 @@
 pub mod answer;
 pub mod cause;
 pub mod denial;
+pub mod range;
 
 pub use answer::Answer;
 pub use cause::Cause;
 pub use denial::Denial;
+pub use range::is_within;

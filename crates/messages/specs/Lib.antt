@@ -2,6 +2,7 @@ pub mod Kinds
 pub mod Services
 pub mod Lawful
 pub mod Made
+pub mod Sent
 pub mod Wire
 pub mod Parts
 pub mod Trip
