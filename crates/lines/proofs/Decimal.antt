@@ -60,9 +60,8 @@ numeral-back most from rest m small h =
     let ends : from + run rest ≡ m .end = grind (arith, tells) in
     let first = getD-take (run rest) rest 0 0 some in
     let text : decimal (m .value) ≡ take (run rest) rest =
-        ap decimal (sym value) ∙ decimal-value own (take (run rest) rest) digits (omega arith) (λ z. size ∙ plain (sym first ∙ z)) (omega arith) in
-    let long : length (decimal (m .value)) ≡ run rest = ap length text ∙ size in
-    (
+    ap decimal (sym value) ∙ decimal-value own (take (run rest) rest) digits (omega arith) (λ z. size ∙ plain (sym first ∙ z)) (omega arith) in
+    let long : length (decimal (m .value)) ≡ run rest = ap length text ∙ size in (
       sym (take-append-drop (run rest) rest) ∙ (λ i. sym text i ++ drop (sym long i) rest),
       omega arith,
       omega arith,

@@ -1,4 +1,3 @@
-pub mod Added
 pub mod Agree
 pub mod Decimal
 pub mod Runs

@@ -1,12 +1,11 @@
 -- What was written is read back, and what is read was written: a text, a letter, a number, a field, the line end.
 -- Each `-to` goes from what stands at a place to its reading and the place after it, each `-from` the other way.
 use mathlib.Core.Path.{_≡_, refl, sym, ap, _∙_}
-use mathlib.Core.Bool.{Bool, true, false, cond}
+use mathlib.Core.Bool.{false}
 use mathlib.Core.List.{List, [], _∷_, _++_}
 use Prim.Native.Nat.{ℕ, suc, _+_, _-_, _^_, _≤_, _<_}
 use native.Mathlib.Nat.{add-zero}
 use native.Mathlib.Omega.{arith}
-use lib.Dec.{eqb}
 use lib.ListN.{length, getD, take, drop}
 use Rattle.std.specs.Text.{asciiDigit}
 use Rattle.std.specs.Written.{decimal}
@@ -99,8 +98,7 @@ number-from {K} key most line at p small h =
     let m : Numeral = found .0 in
     let told = numeral-back most at (drop at line) m small (found .1) in
     let value : m .value ≡ valueIn (p .0) = ap (λ q. valueIn (q .0)) (found .2) in
-    let after : m .end ≡ p .1 = ap (λ q. q .1) (found .2) in
-    (
+    let after : m .end ≡ p .1 = ap (λ q. q .1) (found .2) in (
       omega arith,
       from-text (decimal (m .value)) line at (m .end) (told .0) (told .1) ∙ (λ i. decimal (value i) ++ drop (after i) line),
     )

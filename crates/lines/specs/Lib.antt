@@ -2,5 +2,4 @@ pub mod Numbers
 pub mod Faults
 pub mod Tokens
 pub mod Readings
-pub mod Drafts
 pub mod Results

@@ -54,7 +54,10 @@ pub impl<K: Drop> From<Keyed<K>> for LineFault<K> as LineFaultFromKeyed {
     ghost converts = { λ k r. r ≡ lineFault k };
 
     fn from(keyed: Keyed<K>) -> LineFault<K> {
-        LineFault { key: keyed.key, fault: Fault::Number(keyed.fault) }
+        LineFault {
+            key: keyed.key,
+            fault: Fault::Number(keyed.fault),
+        }
     }
 }
 

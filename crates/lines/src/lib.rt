@@ -1,12 +1,10 @@
 // The grammar of every line: `key=value` fields with one space between, ended by a newline.
 // A line's keys are a type of its own, so that this crate knows of no particular line.
-pub mod draft;
 pub mod fault;
 pub mod number;
 pub mod reader;
 pub mod token;
 
-pub use draft::Draft;
 pub use fault::Fault;
 pub use fault::Keyed;
 pub use fault::LineFault;

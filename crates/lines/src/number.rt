@@ -71,7 +71,10 @@ pub fn numeral_at(line: &[u8], from: usize, most: u32) -> Result<Numeral, Number
     ensures within { λ r. ⌜ made r (λ n. (n .value ≤ most) × (from < n .end) × (n .end ≤ length (now (line .entry)))) ⌝ }
 {
     let end = digits_end(line, from);
-    let none = NumberFault { cause: NumberCause::NoNumber, at: from };
+    let none = NumberFault {
+        cause: NumberCause::NoNumber,
+        at: from,
+    };
     if end == from {
         return Err(none);
     }
@@ -80,6 +83,9 @@ pub fn numeral_at(line: &[u8], from: usize, most: u32) -> Result<Numeral, Number
     }
     match value_of(&line[from..end], most) {
         Some(value) => Ok(Numeral { value, end }),
-        None => Err(NumberFault { cause: NumberCause::Beyond, at: from }),
+        None => Err(NumberFault {
+            cause: NumberCause::Beyond,
+            at: from,
+        }),
     }
 }

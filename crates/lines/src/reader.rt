@@ -1,5 +1,6 @@
 ghost use Prim.Native.Nat.{_≤_};
 ghost use lib.ListN.{length};
+
 mod reading;
 
 /// A place in a line, up to which it has been read.

@@ -4,8 +4,15 @@ ghost use Rattle.lines.specs.Tokens.{seen, placeIn, partIn, valueIn, firstIn};
 /// A part of a line, with the byte at which it begins.
 #[derive(Clone, Copy)]
 pub enum Token<'a> {
-    Word { text: &'a [u8], at: usize },
-    Number { digits: &'a [u8], value: u32, at: usize },
+    Word {
+        text: &'a [u8],
+        at: usize,
+    },
+    Number {
+        digits: &'a [u8],
+        value: u32,
+        at: usize,
+    },
 }
 
 impl<'a> Token<'a> {

@@ -6,7 +6,8 @@ use Prim.Native.Nat.{ℕ, _+_, _≤_}
 use native.Mathlib.Omega.{arith}
 use lib.ListN.{length}
 use Rattle.std.specs.Written.{decimal}
-use Rattle.lines.proofs.Added.{addedAll, joined, all-fit}
+use Rattle.drafts.proofs.Added.{all-fit}
+use Rattle.drafts.specs.Drafts.{addedAll, joined}
 use Rattle.messages.specs.declared.values.Values.{Values}
 use Rattle.messages.specs.declared.wire.key.Key.the-variants.{Kind as KindKey, Tn, A, B, Sv, Rt, Cs}
 use Rattle.messages.specs.Kinds.{letterOf}

@@ -1,5 +1,5 @@
 // Checks a captured wire log, line by line, in a fixed amount of memory.
-use lines::Draft;
+use drafts::Draft;
 use std::alloc::AllocError;
 use std::io;
 use std::io::Read;

@@ -1,4 +1,6 @@
 // What a technician reads: kinds, services, causes, keys and faults in words.
+ghost use mathlib.Core.Path.{_≡_};
+ghost use Rattle.wirecheck.specs.Words.{kindWords, serviceWords, causeWords, faultWords, keyWords};
 use answers::Cause;
 use lines::Fault;
 use lines::NumberCause;
@@ -6,7 +8,10 @@ use messages::Key;
 use messages::Kind;
 use messages::Service;
 
-pub fn of_kind(kind: Kind) -> &'static [u8] {
+/// The words of a kind.
+pub fn of_kind(kind: Kind) -> &'static [u8]
+    ensures { λ r. ⌜ now r ≡ kindWords kind ⌝ }
+{
     match kind {
         Kind::Request => b"request",
         Kind::Suspend => b"suspend",
@@ -21,7 +26,10 @@ pub fn of_kind(kind: Kind) -> &'static [u8] {
     }
 }
 
-pub fn of_service(service: Service) -> &'static [u8] {
+/// The words of a service.
+pub fn of_service(service: Service) -> &'static [u8]
+    ensures { λ r. ⌜ now r ≡ serviceWords service ⌝ }
+{
     match service {
         Service::NotGiven => b"no service given",
         Service::Audio => b"3.1 kHz audio",
@@ -30,7 +38,10 @@ pub fn of_service(service: Service) -> &'static [u8] {
     }
 }
 
-pub fn of_cause(cause: Cause) -> &'static [u8] {
+/// The words of a cause.
+pub fn of_cause(cause: Cause) -> &'static [u8]
+    ensures { λ r. ⌜ now r ≡ causeWords cause ⌝ }
+{
     match cause {
         Cause::NotGiven => b"none given",
         Cause::T3Over => b"T3 over",
@@ -47,7 +58,10 @@ pub fn of_cause(cause: Cause) -> &'static [u8] {
     }
 }
 
-pub fn of_fault(fault: &Fault) -> &'static [u8] {
+/// The words of a fault's cause.
+pub fn of_fault(fault: &Fault) -> &'static [u8]
+    ensures { λ r. ⌜ now r ≡ faultWords (now (fault .entry)) ⌝ }
+{
     match fault {
         Fault::Text { .. } => b"wrong key, letter or separator",
         Fault::Number(number) => match number.cause {
@@ -58,7 +72,10 @@ pub fn of_fault(fault: &Fault) -> &'static [u8] {
     }
 }
 
-pub fn of_key(key: Key) -> &'static [u8] {
+/// The words of a key.
+pub fn of_key(key: Key) -> &'static [u8]
+    ensures { λ r. ⌜ now r ≡ keyWords key ⌝ }
+{
     match key {
         Key::Kind => b"kind",
         Key::Tn => b"tn",

@@ -1,6 +1,6 @@
 ghost use mathlib.Core.Path.{_≡_};
 ghost use Prim.Native.Nat.{_≤_};
-ghost use lib.ListN.{length, drop};
+ghost use lib.ListN.{length};
 ghost use Rattle.std.specs.Vec.{made};
 ghost use Rattle.lines.specs.Readings.{agree, textAt, letterAt, numberAt, fieldAt, endAt, lineIn, Passed, Handed};
 ghost use Rattle.lines.specs.Results.{onOk};
@@ -44,7 +44,10 @@ impl<'a> Reader<'a> {
         let line = self.line;
         let same = agreeing(text, &line[self.at..]);
         if same < text.len() {
-            return Err(LineFault { key, fault: Fault::Text { at: self.at + same } });
+            return Err(LineFault {
+                key,
+                fault: Fault::Text { at: self.at + same },
+            });
         }
         self.at += same;
         Ok(())
@@ -59,9 +62,15 @@ impl<'a> Reader<'a> {
         let at = self.at;
         if at < line.len() {
             self.at += 1;
-            return Ok(Token::Word { text: &line[at..at + 1], at });
+            return Ok(Token::Word {
+                text: &line[at..at + 1],
+                at,
+            });
         }
-        Err(LineFault { key, fault: Fault::Text { at } })
+        Err(LineFault {
+            key,
+            fault: Fault::Text { at },
+        })
     }
 
     /// Hands out the number that stands here, which may be `most` at most.
@@ -74,11 +83,20 @@ impl<'a> Reader<'a> {
         let at = self.at;
         let Numeral { value, end } = numeral_at(line, at, most).under(key)?;
         self.at = end;
-        Ok(Token::Number { digits: &line[at..end], value, at })
+        Ok(Token::Number {
+            digits: &line[at..end],
+            value,
+            at,
+        })
     }
 
     /// Passes the text and hands out the number after it: a field with its separator.
-    pub fn field<K: Copy>(&mut self, key: K, text: &[u8], most: u32) -> Result<Token<'a>, LineFault<K>>
+    pub fn field<K: Copy>(
+        &mut self,
+        key: K,
+        text: &[u8],
+        most: u32,
+    ) -> Result<Token<'a>, LineFault<K>>
         ensures value { λ r. ⌜ Handed (fieldAt key (now (text .entry)) most) (now (self .entry)) (onOk seen r) (now (self .exit)) ⌝ }
         ensures line { λ _. ⌜ lineIn (now (self .exit)) ≡ lineIn (now (self .entry)) ⌝ }
         ensures within { λ r. ⌜ made r (λ token. valueIn (seen token) ≤ most) ⌝ }
@@ -96,10 +114,16 @@ impl<'a> Reader<'a> {
     {
         let at = self.at;
         if at == self.line.len() || self.line[at] != b'\n' {
-            return Err(LineFault { key, fault: Fault::End { at } });
+            return Err(LineFault {
+                key,
+                fault: Fault::End { at },
+            });
         }
         if at + 1 < self.line.len() {
-            return Err(LineFault { key, fault: Fault::End { at: at + 1 } });
+            return Err(LineFault {
+                key,
+                fault: Fault::End { at: at + 1 },
+            });
         }
         Ok(())
     }

@@ -1,11 +1,11 @@
 ghost use mathlib.Core.Path.{_≡_};
 ghost use mathlib.Core.List.{_++_};
 ghost use Rattle.std.specs.Written.{decimal};
-ghost use Rattle.lines.specs.Drafts.{written, added};
+ghost use Rattle.drafts.specs.Drafts.{written, added};
 ghost use Rattle.messages.specs.Wire.{keyText, lineOf};
 use crate::message::Message;
 use crate::wire::key::Key;
-use lines::Draft;
+use drafts::Draft;
 
 /// The bytes of the longest line.
 pub const LONGEST: usize = 46;

@@ -3,7 +3,6 @@ use mathlib.Core.List.{List}
 use Prim.Native.Nat.{ℕ, _-_, _+_}
 use native.Mathlib.Nat.{add-zero}
 use native.Mathlib.Omega.{arith}
-use borrow.Author.Needs.{needs}
 use lib.ListN.{length, drop, take, getD, length-drop}
 use Rattle.std.proofs.shelf.Lists.{getD-drop, length-take-le}
 use Rattle.std.proofs.shelf.Ways.{tells}

@@ -1,8 +1,8 @@
 use mathlib.Core.Path.{_≡_, ap, sym, _∙_}
-use Prim.Native.Nat.{_<_, _≤_, _+_, _*_, _-_}
+use Prim.Native.Nat.{_<_, _+_, _*_, _-_}
 use native.Mathlib.Omega.{arith}
 use borrow.Author.Needs.{needs}
-use lib.ListN.{length, drop, getD}
+use lib.ListN.{drop, getD}
 use Rattle.lines.specs.Numbers.{valueOf, valueAfter}
 use Rattle.lines.proofs.Runs.{digits-more, digit-bounds, value-ge, value-more, value-all}
 use Rattle.lines.proofs.number.value_of.Needs as need

@@ -1,7 +1,7 @@
 use mathlib.Core.Path.{_≡_, _∙_}
 use mathlib.Core.List.{[]}
-use Rattle.lines.specs.Drafts.{written}
-use Rattle.lines.proofs.Added.{addedAll}
+use Rattle.drafts.specs.Drafts.{written}
+use Rattle.drafts.specs.Drafts.{addedAll}
 use Rattle.messages.proofs.Pieces.{pieces, pieces-fit}
 use Rattle.messages.proofs.wire.write.write.Needs as need
 
