@@ -6,12 +6,12 @@ use Prim.Native.Nat.{ℕ, suc, _+_, _-_, _<_, _≤_}
 use native.Mathlib.Omega.{arith}
 use lib.ListN.{length, set, take, drop}
 use borrow.Rule.Slice.PartMut.{putMid}
-use Rattle.std.specs.shelf.Lists.{removed}
+use Rattle.std.specs.shelf.Lists.{between, removed}
 use Rattle.std.proofs.shelf.Lists.{length-take, set-append-left, take-all, take-at, take-take, take-append-drop, length-append, length-drop, append-assoc, append-nil, drop-drop, drop-all}
 use Rattle.std.proofs.shelf.Edits.{length-removed}
 use Rattle.std.proofs.shelf.Parts.{between-is}
 use Rattle.std.proofs.shelf.Tests.{cases-lt}
-use Rattle.waiting_line.specs.Lines.{movedLast}
+use Rattle.waiting_line.specs.Gaps.{over, closed}
 
 module _ {X : Type 0} (u : ℕ) (xs : List X) where
   module _ (n : ℕ) (held : n ≡ length (take u xs)) where
@@ -33,6 +33,9 @@ module _ {X : Type 0} (u : ℕ) (xs : List X) where
 
   pub front-kept : (fs : List X) → fs ≡ take u xs → xs ≡ fs ++ drop u xs
   front-kept fs same = sym (ap (λ l. l ++ drop u xs) same ∙ take-append-drop u xs)
+
+  pub front-over : (fs : List X) → fs ≡ take u xs → xs ≡ over fs xs
+  front-over fs same = front-kept fs same ∙ ap (λ l. fs ++ l) (sym (rest-held (length fs) (ap length same)))
 
   -- a front of the same length in the place of the old one
   module _ (fs : List X) (same : length fs ≡ length (take u xs)) where
@@ -59,35 +62,34 @@ module _ {X : Type 0} (u : ℕ) (xs : List X) where
       let e = mn ∙ held in
       ap (λ l. l ++ drop m xs) (is ∙ ap (map f) (front-held m e)) ∙ ap (λ l. map f (take u xs) ++ l) (rest-held m e)
 
+pub over-long : {X : Type 0} (fs xs : List X) → length fs ≤ length xs → length (over fs xs) ≡ length xs
+over-long fs xs fit =
+    let a = length-append fs (drop (length fs) xs) in
+    let d = length-drop (length fs) xs in
+    omega arith
+
 pub removed-past : {X : Type 0} (xs : List X) (i : ℕ) → length xs ≤ i → removed xs i ≡ xs
 removed-past xs i l = ap (λ ys. ys ++ drop (suc i) xs) (take-all i xs l) ∙ ap (λ ys. xs ++ ys) (drop-all (suc i) xs (omega arith)) ∙ append-nil xs
 
-pub moved-past : {X : Type 0} (xs : List X) (i : ℕ) → length xs ≤ i → movedLast xs i ≡ xs
-moved-past xs i l = ap (λ ys. ys ++ take 1 (drop i xs)) (removed-past xs i l) ∙ ap (λ ys. xs ++ take 1 ys) (drop-all i xs l) ∙ append-nil xs
-
-pub length-moved : {X : Type 0} (xs : List X) (i : ℕ) → i < length xs → length (movedLast xs i) ≡ length xs
-length-moved xs i l =
-    let a = length-append (removed xs i) (take 1 (drop i xs)) in
-    let b = length-removed xs i l in
-    let d = length-drop i xs in
-    let t = length-take 1 (drop i xs) in
-    omega arith
-
-pub moved-front : {X : Type 0} (xs zs : List X) (i n : ℕ) → i < length xs → n ≡ length xs → take (n - 1) (movedLast xs i ++ zs) ≡ removed xs i
-moved-front xs zs i n l e =
-    let b = length-removed xs i l in
-    ap (take (n - 1)) (append-assoc (removed xs i) (take 1 (drop i xs)) zs) ∙ take-at (removed xs i) (take 1 (drop i xs) ++ zs) (n - 1) (omega arith)
-
--- what stands from i to n, turned so that its first element comes last
-pub turned : {X : Type 0} (u : ℕ) (xs ys : List X) (i n : ℕ) → i < n → n ≡ length (take u xs) → ys ≡ drop 1 (take (n - i) (drop i xs)) ++ take 1 (take (n - i) (drop i xs)) → putMid i (n - i) xs ys ≡ movedLast (take u xs) i ++ drop u xs
-turned u xs ys i n l held is =
+-- the front without its element at i, once the gap of one place at i is closed
+pub without : {X : Type 0} (u : ℕ) (xs : List X) (i n : ℕ) → i < n → n ≡ length (take u xs) → closed i 1 n xs ≡ over (removed (take u xs) i) xs
+without u xs i n l held =
     let fs = take u xs in
-    let part : take (n - i) (drop i xs) ≡ drop i fs = between-is xs i n ∙ ap (drop i) (front-held u xs n held) in
     let front : take i xs ≡ take i fs = sym (take-take i n xs (omega arith)) ∙ ap (take i) (front-held u xs n held) in
-    let past : drop (n - i) (drop i xs) ≡ drop u xs = drop-drop (n - i) i xs ∙ ap (λ k. drop k xs) (let e : i + (n - i) ≡ n = omega arith in e) ∙ rest-held u xs n held in
-    let tail : drop 1 (drop i fs) ≡ drop (suc i) fs = drop-drop 1 i fs ∙ ap (λ k. drop k fs) (let e : i + 1 ≡ suc i = omega arith in e) in
-    let turn : ys ≡ drop (suc i) fs ++ take 1 (drop i fs) = is ∙ ap (λ p. drop 1 p ++ take 1 p) part ∙ ap (λ q. q ++ take 1 (drop i fs)) tail in
-    ap (λ l. take i xs ++ (ys ++ l)) past
-    ∙ ap (λ l. l ++ (ys ++ drop u xs)) front
-    ∙ sym (append-assoc (take i fs) ys (drop u xs))
-    ∙ ap (λ l. l ++ drop u xs) (ap (λ l. take i fs ++ l) turn ∙ sym (append-assoc (take i fs) (drop (suc i) fs) (take 1 (drop i fs))))
+    let part : between (i + 1) n xs ≡ drop (suc i) fs = between-is xs (i + 1) n ∙ ap (drop (i + 1)) (front-held u xs n held) ∙ ap (λ k. drop k fs) (let e : i + 1 ≡ suc i = omega arith in e) in
+    ap (λ f. over f xs) (ap (λ f. f ++ between (i + 1) n xs) front ∙ ap (λ f. take i fs ++ f) part)
+
+-- what stands past the front, once it is laid over by more
+pub with-more : {X : Type 0} (u : ℕ) (xs ys zs : List X) (n : ℕ) → n ≡ length (take u xs) → n + length zs ≤ length xs → ys ≡ zs → putMid n (n + length zs - n) xs ys ≡ over (take u xs ++ zs) xs
+with-more u xs ys zs n held fit is =
+    let fs = take u xs in
+    let size = length-append fs zs in
+    let past : drop (n + length zs - n) (drop n xs) ≡ drop (length (fs ++ zs)) xs =
+    drop-drop (n + length zs - n) n xs ∙ ap (λ k. drop k xs) (let e : n + (n + length zs - n) ≡ length (fs ++ zs) = omega arith in e) in
+    ap (λ l. take n xs ++ (ys ++ l)) past ∙ ap (λ l. l ++ (ys ++ drop (length (fs ++ zs)) xs)) (front-held u xs n held)
+    ∙ ap (λ l. fs ++ (l ++ drop (length (fs ++ zs)) xs)) is ∙ sym (append-assoc fs zs (drop (length (fs ++ zs)) xs))
+
+-- the front without its first n elements, once their gap is closed
+pub without-first : {X : Type 0} (u : ℕ) (xs : List X) (n m : ℕ) → m ≡ length (take u xs) → closed 0 n m xs ≡ over (drop n (take u xs)) xs
+without-first u xs n m held =
+    ap (λ f. over f xs) (between-is xs (0 + n) m ∙ ap (drop (0 + n)) (front-held u xs m held) ∙ ap (λ k. drop k (take u xs)) (let e : 0 + n ≡ n = omega arith in e))

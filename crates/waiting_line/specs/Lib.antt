@@ -1,2 +1,3 @@
+pub mod Gaps
 pub mod Lines
 pub mod Searches

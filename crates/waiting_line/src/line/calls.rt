@@ -1,9 +1,11 @@
 ghost use mathlib.Core.Path.{_≡_};
 ghost use mathlib.Core.List.{[], _++_, map};
 ghost use Prim.Native.Nat.{_≤_};
-ghost use lib.ListN.{length, set};
+ghost use lib.ListN.{length, set, drop};
 ghost use Rattle.std.specs.shelf.Lists.{removed};
-ghost use Rattle.waiting_line.specs.Lines.{memory, items, spare, capacity, full, putAnswer, putLeft, placeAnswer, readAnswer, movedLast};
+ghost use Rattle.waiting_line.specs.Gaps.{over};
+ghost use Rattle.waiting_line.specs.Lines.{memory, items, spare, capacity, full, putAnswer, putLeft, putAllAnswer, putAllLeft, placeAnswer, readAnswer};
+use crate::gap::close_gap;
 use crate::line::WaitingLine;
 use crate::timed::Timed;
 use crate::timed::tick_all;
@@ -73,6 +75,23 @@ impl<'m, T: Copy> WaitingLine<'m, T> {
         Ok(())
     }
 
+    /// Puts all of `xs` at the end, in order; denied with 13 if they do not all fit.
+    pub fn put_all(&mut self, xs: &[T]) -> Result<(), Denial>
+        ensures answer { λ r. ⌜ r ≡ putAllAnswer (capacity (now (self .entry))) (items (now (self .entry))) (now (xs .entry)) ⌝ }
+        ensures items { λ _. ⌜ items (now (self .exit)) ≡ putAllLeft (capacity (now (self .entry))) (items (now (self .entry))) (now (xs .entry)) ⌝ }
+        ensures memory { λ _. ⌜ memory (now (self .exit)) ≡ over (putAllLeft (capacity (now (self .entry))) (items (now (self .entry))) (now (xs .entry))) (memory (now (self .entry))) ⌝ }
+        ensures capacity { λ _. ⌜ capacity (now (self .exit)) ≡ capacity (now (self .entry)) ⌝ }
+    {
+        let len = self.len();
+        if xs.len() > self.places() - len {
+            return Err(Denial::NoFreePlace);
+        }
+        let end = len + xs.len();
+        self.places[len..end].copy_from_slice(xs);
+        self.used = end;
+        Ok(())
+    }
+
     /// Puts `x` in the place of the element at `i`; denied with 10.
     pub fn replace(&mut self, i: usize, x: T) -> Result<(), Denial>
         ensures answer { λ r. ⌜ r ≡ placeAnswer (items (now (self .entry))) i ⌝ }
@@ -91,16 +110,27 @@ impl<'m, T: Copy> WaitingLine<'m, T> {
     pub fn remove(&mut self, i: usize) -> Result<(), Denial>
         ensures answer { λ r. ⌜ r ≡ placeAnswer (items (now (self .entry))) i ⌝ }
         ensures items { λ _. ⌜ items (now (self .exit)) ≡ removed (items (now (self .entry))) i ⌝ }
-        ensures memory { λ _. ⌜ memory (now (self .exit)) ≡ movedLast (items (now (self .entry))) i ++ spare (now (self .entry)) ⌝ }
+        ensures memory { λ _. ⌜ memory (now (self .exit)) ≡ over (removed (items (now (self .entry))) i) (memory (now (self .entry))) ⌝ }
         ensures capacity { λ _. ⌜ capacity (now (self .exit)) ≡ capacity (now (self .entry)) ⌝ }
     {
         let len = self.len();
         if i >= len {
             return Err(Denial::NoneThere);
         }
-        self.places[i..len].rotate_left(1);
+        close_gap(self.places, i, 1, len);
         self.used = len - 1;
         Ok(())
+    }
+
+    /// Removes the first `n` elements, all if there are fewer, and keeps the order of the rest.
+    pub fn remove_first(&mut self, n: usize)
+        ensures items { λ _. ⌜ items (now (self .exit)) ≡ drop n (items (now (self .entry))) ⌝ }
+        ensures memory { λ _. ⌜ memory (now (self .exit)) ≡ over (drop n (items (now (self .entry)))) (memory (now (self .entry))) ⌝ }
+        ensures capacity { λ _. ⌜ capacity (now (self .exit)) ≡ capacity (now (self .entry)) ⌝ }
+    {
+        let len = self.len();
+        close_gap(self.places, 0, n, len);
+        self.used = len.saturating_sub(n);
     }
 
     /// One tick for each element.

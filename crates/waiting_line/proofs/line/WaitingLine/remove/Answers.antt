@@ -1,11 +1,13 @@
-use mathlib.Core.Path.{refl, sym, ap, _∙_}
+use mathlib.Core.Path.{_≡_, refl, sym, ap, _∙_}
 use Prim.Native.Nat.{_-_, _<_, _≤_}
 use native.Mathlib.Omega.{arith}
 use lib.Dec.{ltb}
 use lib.ListN.{length, take, drop}
 use Rattle.std.proofs.shelf.Tests.{cond-true, cond-false, lt-ltb, le-ltb}
-use Rattle.waiting_line.specs.Lines.{movedLast}
-use Rattle.waiting_line.proofs.Fronts.{front-kept, turned, moved-front, front-long, length-moved, removed-past, moved-past}
+use Rattle.std.specs.shelf.Lists.{removed}
+use Rattle.std.proofs.shelf.Lists.{take-at, length-take}
+use Rattle.std.proofs.shelf.Edits.{length-removed}
+use Rattle.waiting_line.proofs.Fronts.{front-over, over-long, removed-past, without}
 use Rattle.waiting_line.proofs.line.WaitingLine.remove.Needs as need
 
 pub returns-then-i-len : need.returns-then-i-len
@@ -17,7 +19,7 @@ returns-then-i-len g c =
     record {
       answer = sym (cond-false (ltb i (length (take u xs))) _ _ (le-ltb _ _ past));
       items = sym (removed-past (take u xs) i past);
-      memory = front-kept u xs _ (moved-past (take u xs) i past);
+      memory = front-over u xs _ (removed-past (take u xs) i past);
       capacity = refl;
     }
 
@@ -29,10 +31,13 @@ returns g c =
     let n = c .len-len .result in
     let held = c .len-len .ensures .length in
     let within : i < length (take u xs) = omega (arith, c .if-i-len .left, held) in
-    let left = turned u xs _ i n (c .if-i-len .left) held (c .rotate-left .ensures .after) in
+    let fs = take u xs in
+    let kept = removed fs i in
+    let left = c .close-gap .ensures ∙ without u xs i n (c .if-i-len .left) held in
+    let size : length kept ≡ n - 1 = omega (arith, length-removed fs i within) in
     record {
-      answer = sym (cond-true (ltb i (length (take u xs))) _ _ (lt-ltb _ _ within));
-      items = ap (take (n - 1)) left ∙ moved-front (take u xs) (drop u xs) i n within held;
+      answer = sym (cond-true (ltb i (length fs)) _ _ (lt-ltb _ _ within));
+      items = ap (take (n - 1)) left ∙ take-at kept (drop (length kept) xs) (n - 1) size;
       memory = left;
-      capacity = ap length left ∙ front-long u xs (movedLast (take u xs) i) (length-moved (take u xs) i within);
+      capacity = ap length left ∙ over-long kept xs (omega (arith, length-take u xs));
     }

@@ -1,0 +1,4 @@
+pub mod Meaning
+pub mod Backplanes
+pub mod Lined
+pub mod Wires
