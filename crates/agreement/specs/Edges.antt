@@ -8,8 +8,8 @@ use lib.Chars.{codes}
 use lib.ListN.{replicate}
 use Rattle.std.specs.declared.result.Result.{Result}
 use Rattle.std.specs.declared.result.Result.the-variants.{Ok, Err}
-use Rattle.answers.specs.declared.answer.Answer.the-variants.{Done, Nothing, Requested, Accepted, Recall, Suspended, Calling, Kept, Stray, Stored, Rejected, Freed, Ended}
-use Rattle.answers.specs.declared.cause.Cause.the-variants.{NotGiven, T7Over, Withdrawn, ShortTermDenial}
+use Rattle.answers.specs.declared.answer.Answer.the-variants.{Done, Nothing, Requested, Accepted, Recall, Suspended, Calling, Kept, Stray, Stored, Rejected, Freed, Resumed, Ended}
+use Rattle.answers.specs.declared.cause.Cause.the-variants.{NotGiven, T7Over, Withdrawn, ShortTermDenial, MessageReturned}
 use Rattle.answers.specs.declared.denial.Denial.the-variants.{NoSuchParty, UserFull, NoneDue}
 use Rattle.lines.specs.declared.fault.Fault.the-variants.{Number}
 use Rattle.lines.specs.declared.number.NumberCause.the-variants.{NoNumber}
@@ -21,7 +21,7 @@ use Rattle.messages.specs.Parts.{readingOf}
 use Rattle.a_side.specs.declared.settings.ASettings.{ASettings}
 use Rattle.b_side.specs.declared.settings.BSettings.{BSettings}
 use Rattle.agreement.specs.declared.call.Call.{Call}
-use Rattle.agreement.specs.declared.call.Call.the-variants.{Activate, Withdraw, AnswerRecall, ALineBusy, ALineFree, ATick, AExpiry, BLineBusy, BLineFree, BTick, BExpiry, DeliverToA, DeliverToB}
+use Rattle.agreement.specs.declared.call.Call.the-variants.{Activate, Withdraw, AnswerRecall, ALineBusy, ALineFree, ATick, AExpiry, BLineBusy, BLineFree, BTick, BExpiry, DeliverToA, DeliverToB, ReturnToB}
 use Rattle.agreement.specs.declared.call.Outcome.{Outcome}
 use Rattle.agreement.specs.declared.call.Outcome.the-variants.{Answered, Denied}
 use Rattle.b_side.specs.Rules.{idle}
@@ -249,6 +249,55 @@ edges =
           (Answered (Requested 1)
           ∷ Answered (Stored 1)
           ∷ Denied NoneDue
+          ∷ []);
+    }
+    ∷  -- a withdrawal makes the user free again: the suspended request is resumed at both sides
+    record {
+      trial =
+          Run (settingsA 10) (settingsB 90 5)
+          (Activate 3 8 1
+          ∷ Activate 3 9 1
+          ∷ DeliverToB
+          ∷ DeliverToB
+          ∷ BTick
+          ∷ BExpiry
+          ∷ BExpiry
+          ∷ DeliverToA
+          ∷ DeliverToA
+          ∷ DeliverToA
+          ∷ DeliverToA
+          ∷ Withdraw 3 1
+          ∷ DeliverToB
+          ∷ DeliverToB
+          ∷ DeliverToB
+          ∷ []);
+      result =
+          Outcomes
+          (Answered (Requested 1)
+          ∷ Answered (Requested 2)
+          ∷ Answered (Stored 1)
+          ∷ Answered (Stored 2)
+          ∷ Answered Done
+          ∷ Answered (Freed 1)
+          ∷ Answered (Freed 2)
+          ∷ Answered (Accepted 1)
+          ∷ Answered (Accepted 2)
+          ∷ Answered (Recall 1)
+          ∷ Answered (Suspended 2)
+          ∷ Answered (Ended 1 Withdrawn)
+          ∷ Answered (Suspended 2)
+          ∷ Answered (Ended 1 NotGiven)
+          ∷ Answered (Resumed 2)
+          ∷ []);
+    }
+    ∷  -- a result that comes back to B ends its record
+    record {
+      trial = Run (settingsA 10) (settingsB 90 5) (Activate 3 9 1 ∷ DeliverToB ∷ ReturnToB ∷ []);
+      result =
+          Outcomes
+          (Answered (Requested 1)
+          ∷ Answered (Stored 1)
+          ∷ Answered (Ended 1 MessageReturned)
           ∷ []);
     }
     ∷  -- a line with transaction 0 is no lawful message: 14

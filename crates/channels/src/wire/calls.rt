@@ -41,6 +41,13 @@ impl<'m> Wire<'m> {
             count: 0,
         }
     }
+
+    /// The bytes that stand on it: the lines of the waiting messages, one after another.
+    pub fn lines(&self) -> &[u8]
+        ensures { λ r. ⌜ now r ≡ linesOf (wireWaiting (now (self .entry))) ⌝ }
+    {
+        self.bytes.all()
+    }
 }
 
 pub impl<'m> Channel for Wire<'m> as WireChannel {
