@@ -127,11 +127,11 @@ parts-from line s h =
     let V : Values = record { kind = kind; tn = valueIn (tn .0); user = valueIn (user .0); destination = valueIn (destination .0); service = valueIn (service .0); retention = valueIn (retention .0); cause = valueIn (cause .0) } in
     let same : V ≡ s .values = ap (λ (t : Shown). t .values) (ok-same _ s h9) in
     let whole : line ≡ lineOf V =
-        word-is .1 ∙ ap (λ l. codes "kind=" ++ l) (letter-is .1 ∙ ap (λ b. b ∷ drop (letter .1) line) kind-is
-        ∙ ap (λ l. letterOf kind ∷ l) (tn-is .1 ∙ ap (λ l. codes " tn=" ++ (decimal (V .tn) ++ l))
-        (user-is .1 ∙ ap (λ l. codes " a=" ++ (decimal (V .user) ++ l)) (destination-is .1 ∙ ap (λ l. codes " b=" ++ (decimal (V .destination) ++ l))
-        (service-is .1 ∙ ap (λ l. codes " sv=" ++ (decimal (V .service) ++ l)) (retention-is .1 ∙ ap (λ l. codes " rt=" ++ (decimal (V .retention) ++ l))
-        (cause-is .1 ∙ ap (λ l. codes " cs=" ++ (decimal (V .cause) ++ l)) end-is))))))) in
+    word-is .1 ∙ ap (λ l. codes "kind=" ++ l) (letter-is .1 ∙ ap (λ b. b ∷ drop (letter .1) line) kind-is
+    ∙ ap (λ l. letterOf kind ∷ l) (tn-is .1 ∙ ap (λ l. codes " tn=" ++ (decimal (V .tn) ++ l))
+    (user-is .1 ∙ ap (λ l. codes " a=" ++ (decimal (V .user) ++ l)) (destination-is .1 ∙ ap (λ l. codes " b=" ++ (decimal (V .destination) ++ l))
+    (service-is .1 ∙ ap (λ l. codes " sv=" ++ (decimal (V .service) ++ l)) (retention-is .1 ∙ ap (λ l. codes " rt=" ++ (decimal (V .retention) ++ l))
+    (cause-is .1 ∙ ap (λ l. codes " cs=" ++ (decimal (V .cause) ++ l)) end-is))))))) in
     whole ∙ ap lineOf same))))))))))
 
 lawful-from : (b : Bool) (v w : Values) → _≡_ {A = Result Values Unread} (cond b (Ok v) (Err NotLawful)) (Ok w) → (b ≡ true) × (v ≡ w)
@@ -146,8 +146,7 @@ trip-from : (line : List ℕ) (v : Values) → readingOf line ≡ Ok v → (line
 trip-from line v h =
     let step = then-back (onErr NotALine (partsOf line)) _ v h in
     let s : Shown = step .0 in
-    let made = lawful-from (isLawful (s .values)) (s .values) v (step .2) in
-    (
+    let made = lawful-from (isLawful (s .values)) (s .values) v (step .2) in (
       parts-from line s (parted (partsOf line) s (step .1)) ∙ ap lineOf (made .1),
       ap isLawful (sym (made .1)) ∙ made .0,
     )

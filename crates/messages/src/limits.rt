@@ -34,7 +34,10 @@ impl Limits {
                 retention: 1,
                 ..none
             },
-            Kind::Result | Kind::CallBusy => Limits { retention: 1, ..none },
+            Kind::Result | Kind::CallBusy => Limits {
+                retention: 1,
+                ..none
+            },
             Kind::Cancel => Limits {
                 most_cause: 4,
                 ..none

@@ -41,7 +41,8 @@ impl Check {
         }
         let number = self.messages.saturating_add(self.refused);
         self.held = Held::new();
-        self.out.extend_from_slice(report::of_line(number, read).as_bytes())
+        self.out
+            .extend_from_slice(report::of_line(number, read).as_bytes())
     }
 
     // A last line without its line end, and the count.
