@@ -1,4 +1,7 @@
 // The originating side: its records, its settings, and its rules (specs/).
+
+#![tactic(auto)]
+
 ghost use Rattle.a_side.specs.Tidy.{FiveSuffice};
 
 pub mod record;

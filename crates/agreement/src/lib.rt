@@ -1,4 +1,7 @@
 // The pair of sides with its two channels: its calls, what a run of them tells, and the law over every run (specs/).
+
+#![tactic(auto)]
+
 ghost use Rattle.agreement.specs.Laws.{Law, RunsAgree, RunsFit, CallsAgree};
 ghost use Rattle.agreement.specs.Edges.{Edges};
 

@@ -1,4 +1,7 @@
 // What a call tells its caller: an answer with its values, or a denial by its number.
+
+#![tactic(auto)]
+
 pub mod answer;
 pub mod cause;
 pub mod denial;

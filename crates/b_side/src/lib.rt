@@ -1,4 +1,7 @@
 // The destination side: its records, its line facts, its settings, and its rules (specs/).
+
+#![tactic(auto)]
+
 pub mod forwarding;
 pub mod line;
 pub mod record;

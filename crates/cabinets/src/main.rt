@@ -1,4 +1,7 @@
 // Carries a log of messages over a backplane and over a wire, and shows that both cabinets answer alike.
+
+#![tactic(auto)]
+
 use answers::Denial;
 use anyhow::anyhow;
 use came::{Came, is_alike, left_by};

@@ -1,4 +1,7 @@
 // One-way channels of messages, by their meaning and in two makes. They know nothing of who uses them.
+
+#![tactic(auto)]
+
 pub mod backplane;
 pub mod carriage;
 pub mod channel;

@@ -1,4 +1,7 @@
 // A line that is being written into a fixed number of bytes.
+
+#![tactic(auto)]
+
 pub mod draft;
 
 pub use draft::Draft;

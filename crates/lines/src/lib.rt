@@ -1,5 +1,8 @@
 // The grammar of every line: `key=value` fields with one space between, ended by a newline.
 // A line's keys are a type of its own, so that this crate knows of no particular line.
+
+#![tactic(auto)]
+
 pub mod fault;
 pub mod number;
 pub mod reader;

@@ -1,4 +1,7 @@
 // The messages that the two sides send each other, and their wire line. None exists that breaks its ranges.
+
+#![tactic(auto)]
+
 pub mod kind;
 pub mod limits;
 pub mod message;

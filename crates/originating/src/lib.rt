@@ -1,4 +1,7 @@
 // The originating side at work: its calls, each equal to its rule. It knows the channel toward B by its meaning only.
+
+#![tactic(auto)]
+
 mod looks;
 mod sent;
 pub mod side;

@@ -1,4 +1,7 @@
 // A line of elements in memory that someone else owns, first come first; the search and the timers of records.
+
+#![tactic(auto)]
+
 pub mod gap;
 pub mod line;
 pub mod record;

@@ -1,4 +1,7 @@
 // Checks a captured wire log, line by line, in a fixed amount of memory.
+
+#![tactic(auto)]
+
 use drafts::Draft;
 use std::alloc::AllocError;
 use std::io;
