@@ -18,20 +18,20 @@ bounds-line-from c = omega (arith, run_le (drop c.args.from c.args.line.now), le
 pub returns-then-line-from-eq48 : goal.returns-then-line-from-eq48
 returns-then-line-from-eq48 c = let f = first c.args.line.now c.args.from in record { value = grind (arith, nat_tests); within = tt }
 
-pub slice-bounds-value-of-end : goal.slice-bounds-value-of-end
-slice-bounds-value-of-end c = omega (arith, run_le (drop c.args.from c.args.line.now), length-drop c.args.from c.args.line.now)
+pub slice_bounds-value_of-end : goal.slice_bounds-value_of-end
+slice_bounds-value_of-end c = omega (arith, run_le (drop c.args.from c.args.line.now), length-drop c.args.from c.args.line.now)
 
-pub value-of-requires : goal.value-of-requires
-value-of-requires c =
+pub value_of-requires : goal.value_of-requires
+value_of-requires c =
     let rest : List ℕ = drop c.args.from c.args.line.now in
     let P : ℕ → Type 0 = λ n. run (take n rest) ≡ length (take n rest) in
-    subst P (sym (digits rest c.args.from c.digits-end-end.result c.digits-end-end.ensures))
+    subst P (sym (digits rest c.args.from c.digits_end-end.result c.digits_end-end.ensures))
     (run_take rest ∙ sym (length-take-le (run rest) rest (run_le rest)))
 
 pub returns-in-Some : goal.returns-in-Some
 returns-in-Some c =
     let f = first c.args.line.now c.args.from in
-    let told = rw (digits (drop c.args.from c.args.line.now) c.args.from c.digits-end-end.result c.digits-end-end.ensures) at c.in-Some.ensures in
+    let told = rw (digits (drop c.args.from c.args.line.now) c.args.from c.digits_end-end.result c.digits_end-end.ensures) at c.in-Some.ensures in
     let size = length-drop c.args.from c.args.line.now in
     let few = run_le (drop c.args.from c.args.line.now) in
     record { value = grind (arith, nat_tests); within = (grind (arith, nat_tests), omega arith, omega arith) }
@@ -39,5 +39,5 @@ returns-in-Some c =
 pub returns-in-None : goal.returns-in-None
 returns-in-None c =
     let f = first c.args.line.now c.args.from in
-    let told = rw (digits (drop c.args.from c.args.line.now) c.args.from c.digits-end-end.result c.digits-end-end.ensures) at c.in-None.ensures in
+    let told = rw (digits (drop c.args.from c.args.line.now) c.args.from c.digits_end-end.result c.digits_end-end.ensures) at c.in-None.ensures in
     record { value = grind (arith, nat_tests); within = tt }

@@ -3,8 +3,8 @@ use Rattle.lines.specs.Numbers.{value_of, value_after}
 use Rattle.lines.proofs.Runs.{digits_more, digit_bounds, value_ge, value_more, value_all}
 use Rattle.lines.proofs.number.value_of.Goals as goal
 
-pub overflow-sub-digit : goal.overflow-sub-digit
-overflow-sub-digit c =
+pub overflow_sub-digit : goal.overflow_sub-digit
+overflow_sub-digit c =
     (digit_bounds _ (digits_more c.args.digits.now c.loop-digit.digit-index (omega arith) c.loop-digit.invariant.2).0).0
 
 pub returns-then-value-from : goal.returns-then-value-from

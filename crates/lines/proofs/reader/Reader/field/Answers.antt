@@ -2,13 +2,13 @@ use Rattle.std.proofs.Common.{rules}
 use Rattle.lines.specs.Readings.{field_at}
 use Rattle.lines.proofs.reader.Reader.field.Goals as goal
 
-pub returns-in-err-text : goal.returns-in-err-text
+pub returns-in_err-text : goal.returns-in_err-text
 unfolding field_at
-returns-in-err-text g c = search rules
+returns-in_err-text g c = search rules
 
-pub returns-in-err-token : goal.returns-in-err-token
+pub returns-in_err-token : goal.returns-in_err-token
 unfolding field_at
-returns-in-err-token g c = search rules
+returns-in_err-token g c = search rules
 
 pub returns : goal.returns
 unfolding field_at

@@ -5,11 +5,11 @@ use Rattle.waiting_line.specs.Lines.{full}
 use Rattle.waiting_line.proofs.Fronts.{front_held}
 use Rattle.waiting_line.proofs.line.WaitingLine.put.Goals as goal
 
-pub returns-then-is-full : goal.returns-then-is-full
-returns-then-is-full g c =
+pub returns-then-is_full : goal.returns-then-is_full
+returns-then-is_full g c =
     let xs = c.args.self.now.places.now in
     let fs = take c.args.self.now.used xs in
-    let held : full (length xs) fs ≡ true = sym c.if-is-full.ensures in
+    let held : full (length xs) fs ≡ true = sym c.if-is_full.ensures in
     record {
       answer = sym (cond-true (full (length xs) fs) _ _ held);
       items = sym (cond-true (full (length xs) fs) fs (fs ++ c.args.x ∷ []) held);
@@ -24,7 +24,7 @@ returns g c =
     let x = c.args.x in
     let n = c.len-len.result in
     let held = c.len-len.ensures.length in
-    let free : full (length xs) fs ≡ false = sym c.if-is-full.ensures in
+    let free : full (length xs) fs ≡ false = sym c.if-is_full.ensures in
     let within : n < length xs = omega (arith, leb-false _ _ free, held) in
     record {
       answer = sym (cond-false (full (length xs) fs) _ _ free);

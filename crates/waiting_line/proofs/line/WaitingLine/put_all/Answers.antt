@@ -32,7 +32,7 @@ returns g c =
     let all : fitting (length xs) fs ys ≡ true = le-leb (length fs + length ys) (length xs) (omega arith) in
     let same = cond-true (fitting (length xs) fs ys) (fs ++ ys) fs all in
     let size = length-append fs ys in
-    let left = with_more u xs _ ys n held fit c.copy-from-slice.ensures.after in
+    let left = with_more u xs _ ys n held fit c.copy_from_slice.ensures.after in
     record {
       answer = sym (cond-true (fitting (length xs) fs ys) _ _ all);
       items = ap (take (n + length ys)) left ∙ take_at (fs ++ ys) (drop (length (fs ++ ys)) xs) (n + length ys) (omega arith) ∙ sym same;

@@ -29,7 +29,7 @@ returns g c =
     let within : i < length (take u xs) = omega (arith, c.if-i-len.false, held) in
     let fs = take u xs in
     let kept = remove fs i in
-    let left = c.close-gap.ensures ∙ without u xs i n c.if-i-len.false held in
+    let left = c.close_gap.ensures ∙ without u xs i n c.if-i-len.false held in
     let size : length kept ≡ n - 1 = omega (arith, length-remove fs i within) in
     record {
       answer = sym (cond-true (ltb i (length fs)) _ _ (lt-ltb _ _ within));

@@ -10,10 +10,10 @@ returns g c =
     let n = c.args.n in
     let held = c.len-len.ensures.length in
     let kept = drop n (take u xs) in
-    let left = c.close-gap.ensures ∙ without_first u xs n c.len-len.result held in
+    let left = c.close_gap.ensures ∙ without_first u xs n c.len-len.result held in
     let size = length-drop n (take u xs) in
     record {
-      items = ap (take c.saturating-sub-self.result) left ∙ take_at kept (drop (length kept) xs) c.saturating-sub-self.result (omega (arith, c.saturating-sub-self.ensures));
+      items = ap (take c.saturating_sub-self.result) left ∙ take_at kept (drop (length kept) xs) c.saturating_sub-self.result (omega (arith, c.saturating_sub-self.ensures));
       memory = left;
       capacity = ap length left ∙ over_long kept xs (omega (arith, length-take u xs));
     }

@@ -12,5 +12,5 @@ returns g c =
     let whole : n - 0 ≡ n = omega arith in
     let fs = map f (take u xs) in
     let same = length-map (take u xs) f in
-    let left = front_mapped u xs f n (n - 0) _ c.len-len.ensures.length whole c.tick-all.ensures in
+    let left = front_mapped u xs f n (n - 0) _ c.len-len.ensures.length whole c.tick_all.ensures in
     record { items = ap (take u) left ∙ front_of u xs fs same; memory = left; capacity = ap length left ∙ front_long u xs fs same }
