@@ -22,5 +22,5 @@ returns t c =
     let put = c.push.ensures in
     elim c.if-n-lt10.branch [
       | then-n-lt10 w ↦ put ∙ one c.args.n (written c.if-n-lt10.digits) w.if-n-lt10.true (ap written w.digits-is ∙ w.new-digits.ensures)
-      | else-n-lt10 w ↦ put ∙ more c.args.n (written c.if-n-lt10.digits) w.if-n-lt10.false (omega arith) (ap written w.digits-is ∙ w.digits-of-digits.ensures)
+      | else-n-lt10 w ↦ put ∙ more c.args.n (written c.if-n-lt10.digits) w.if-n-lt10.false (omega arith) (ap written w.digits-is ∙ w.digits_of-digits.ensures)
     ]
