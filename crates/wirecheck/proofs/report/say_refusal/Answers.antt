@@ -16,4 +16,4 @@ said u n t t1 end is number first last =
 pub returns-in-NotLawful : goal.returns-in-NotLawful
 returns-in-NotLawful c =
     let number = c.from.ensures ∙ c.number.ensures ∙ ap denial_number (c.denial.ensures ∙ ap unread_denial c.in-NotLawful.is) in
-    said c.args.unread.now _ _ _ _ c.in-NotLawful.is number c.say-number.ensures c.push-text.ensures
+    said c.args.unread.now _ _ _ _ c.in-NotLawful.is number c.say_number.ensures c.push_text.ensures

@@ -7,11 +7,11 @@ use Rattle.channels.specs.Backplanes.{values_of, records, back_memory}
 use Rattle.channels.proofs.Lists.{read_first, err_first}
 use Rattle.channels.proofs.backplane.BackplaneChannel.take.Goals as goal
 
-pub returns-in-err-message : goal.returns-in-err-message
-returns-in-err-message c =
+pub returns-in_err-message : goal.returns-in_err-message
+returns-in_err-message c =
     let s = c.args.self.now in
-    let p = err_from_is_err_and c.from-residual.result c.from-residual.ensures.1 in
-    let denied = c.in-err-message.ensures in
+    let p = err_from_is_err_and c.from_residual.result c.from_residual.ensures.1 in
+    let denied = c.in_err-message.ensures in
     let none = err_first (records s) _ denied in
     record {
       answer = ap said (p.1 ∙ ap (λ d. Err d) p.2 ∙ denied) ∙ read_first (records s);

@@ -8,9 +8,9 @@ use Rattle.channels.proofs.wire.calls.WireChannel.look.Goals as goal
 pub returns-in-Ok : goal.returns-in-Ok
 returns-in-Ok c =
     let w = c.args.self.now in
-    read_some (wire_waiting w) _ (wire_lawful w) (c.in-Ok.ensures.value ∙ ap reading_of (c.first-line.ensures ∙ ap first_line (c.all.ensures ∙ w.lines)))
+    read_some (wire_waiting w) _ (wire_lawful w) (c.in-Ok.ensures.value ∙ ap reading_of (c.first_line.ensures ∙ ap first_line (c.all.ensures ∙ w.lines)))
 
 pub returns-in-Err : goal.returns-in-Err
 returns-in-Err c =
     let w = c.args.self.now in
-    read_none (wire_waiting w) _ (wire_lawful w) (c.in-Err.ensures.value ∙ ap reading_of (c.first-line.ensures ∙ ap first_line (c.all.ensures ∙ w.lines)))
+    read_none (wire_waiting w) _ (wire_lawful w) (c.in-Err.ensures.value ∙ ap reading_of (c.first_line.ensures ∙ ap first_line (c.all.ensures ∙ w.lines)))

@@ -19,38 +19,38 @@ returns-then-self-capacity c =
       memory = memory_kept w;
     }
 
-pub invariant-of-self : goal.invariant-of-self
-invariant-of-self c =
+pub invariant_of-self : goal.invariant_of-self
+invariant_of-self c =
     let w = c.args.self.now in
     let free : length (wire_waiting w) < wire_capacity w = omega (arith, w.counted, w.fits, c.capacity.ensures, c.if-self-capacity.false) in
-    absurd (line_not_denied w c.args.message.values _ c.args.message.lawful (c.as-bytes.ensures ∙ c.write.ensures) free _ c.in-err-put-all.ensures.answer)
+    absurd (line_not_denied w c.args.message.values _ c.args.message.lawful (c.as_bytes.ensures ∙ c.write.ensures) free _ c.in_err-put_all.ensures.answer)
 
-pub returns-in-err-put-all : goal.returns-in-err-put-all
-returns-in-err-put-all c =
+pub returns-in_err-put_all : goal.returns-in_err-put_all
+returns-in_err-put_all c =
     let w = c.args.self.now in
     let free : length (wire_waiting w) < wire_capacity w = omega (arith, w.counted, w.fits, c.capacity.ensures, c.if-self-capacity.false) in
-    absurd (line_not_denied w c.args.message.values _ c.args.message.lawful (c.as-bytes.ensures ∙ c.write.ensures) free _ c.in-err-put-all.ensures.answer)
+    absurd (line_not_denied w c.args.message.values _ c.args.message.lawful (c.as_bytes.ensures ∙ c.write.ensures) free _ c.in_err-put_all.ensures.answer)
 
-pub overflow-add-self : goal.overflow-add-self
-overflow-add-self c = omega (arith, c.args.self.now.fits, c.capacity.ensures, c.capacity.type-inv, c.if-self-capacity.false)
+pub overflow_add-self : goal.overflow_add-self
+overflow_add-self c = omega (arith, c.args.self.now.fits, c.capacity.ensures, c.capacity.type-inv, c.if-self-capacity.false)
 
-pub invariant-of-self-2 : goal.invariant-of-self-2
-invariant-of-self-2 c =
+pub invariant_of-self-2 : goal.invariant_of-self-2
+invariant_of-self-2 c =
     let w = c.args.self.now in
     let free : length (wire_waiting w) < wire_capacity w = omega (arith, w.counted, w.fits, c.capacity.ensures, c.if-self-capacity.false) in
-    let so = put_settled w c.args.message.values _ c.args.message.lawful (c.as-bytes.ensures ∙ c.write.ensures) free _ c.put-all.ensures.items in
-    (so.lines, (so.counted, (omega (arith, free, w.counted, c.put-all.ensures.capacity), tt)))
+    let so = put_settled w c.args.message.values _ c.args.message.lawful (c.as_bytes.ensures ∙ c.write.ensures) free _ c.put_all.ensures.items in
+    (so.lines, (so.counted, (omega (arith, free, w.counted, c.put_all.ensures.capacity), tt)))
 
 pub returns : goal.returns
 returns c =
     let w = c.args.self.now in
     let v = c.args.message.values in
     let free : length (wire_waiting w) < wire_capacity w = omega (arith, w.counted, w.fits, c.capacity.ensures, c.if-self-capacity.false) in
-    let written = c.as-bytes.ensures ∙ c.write.ensures in
-    let so = put_settled w v _ c.args.message.lawful written free _ c.put-all.ensures.items in
+    let written = c.as_bytes.ensures ∙ c.write.ensures in
+    let so = put_settled w v _ c.args.message.lawful written free _ c.put_all.ensures.items in
     record {
       answer = sym (cond-false (full (wire_capacity w) (wire_waiting w)) _ _ (lt-leb (wire_capacity w) (length (wire_waiting w)) free));
       waiting = so.waiting ∙ sym (put_end (wire_capacity w) (wire_waiting w) v free);
-      capacity = ap (λ n. n / 46) c.put-all.ensures.capacity;
-      memory = c.put-all.ensures.memory ∙ ap (λ f. over f (wire_memory w)) (line_put w v _ c.args.message.lawful written free ∙ ap lines_of (sym so.waiting));
+      capacity = ap (λ n. n / 46) c.put_all.ensures.capacity;
+      memory = c.put_all.ensures.memory ∙ ap (λ f. over f (wire_memory w)) (line_put w v _ c.args.message.lawful written free ∙ ap lines_of (sym so.waiting));
     }

@@ -9,30 +9,30 @@ use Rattle.channels.specs.Wires.{wire_memory}
 use Rattle.channels.proofs.WireSteps.{line_taken, some_counted, take_settled}
 use Rattle.channels.proofs.wire.calls.WireChannel.take.Goals as goal
 
-pub invariant-of-self : goal.invariant-of-self
-invariant-of-self c =
+pub invariant_of-self : goal.invariant_of-self
+invariant_of-self c =
     let w = c.args.self.now in
-    let some = sym (ap seen c.in-ok-message.ensures.ok-part) ∙ c.look.ensures in
-    let gone = ap (λ l. drop (length l) (items w.bytes)) (c.first-line-len.ensures ∙ ap first_line c.all.ensures) in
-    let so = take_settled w c.in-ok-message.message.values some _ (c.remove-first.ensures.items ∙ gone) in
-    (so.lines, (so.counted, (omega (arith, w.fits, c.remove-first.ensures.capacity), tt)))
+    let some = sym (ap seen c.in_ok-message.ensures.ok_part) ∙ c.look.ensures in
+    let gone = ap (λ l. drop (length l) (items w.bytes)) (c.first_line-len.ensures ∙ ap first_line c.all.ensures) in
+    let so = take_settled w c.in_ok-message.message.values some _ (c.remove_first.ensures.items ∙ gone) in
+    (so.lines, (so.counted, (omega (arith, w.fits, c.remove_first.ensures.capacity), tt)))
 
-pub overflow-sub-self : goal.overflow-sub-self
-overflow-sub-self c =
+pub overflow_sub-self : goal.overflow_sub-self
+overflow_sub-self c =
     let w = c.args.self.now in
-    let some = sym (ap seen c.in-ok-message.ensures.ok-part) ∙ c.look.ensures in
-    omega (arith, some_counted w c.in-ok-message.message.values some)
+    let some = sym (ap seen c.in_ok-message.ensures.ok_part) ∙ c.look.ensures in
+    omega (arith, some_counted w c.in_ok-message.message.values some)
 
 pub returns : goal.returns
 returns c =
     let w = c.args.self.now in
-    let v = c.in-ok-message.message.values in
-    let some = sym (ap seen c.in-ok-message.ensures.ok-part) ∙ c.look.ensures in
-    let gone = ap (λ l. drop (length l) (items w.bytes)) (c.first-line-len.ensures ∙ ap first_line c.all.ensures) in
-    let so = take_settled w v some _ (c.remove-first.ensures.items ∙ gone) in
+    let v = c.in_ok-message.message.values in
+    let some = sym (ap seen c.in_ok-message.ensures.ok_part) ∙ c.look.ensures in
+    let gone = ap (λ l. drop (length l) (items w.bytes)) (c.first_line-len.ensures ∙ ap first_line c.all.ensures) in
+    let so = take_settled w v some _ (c.remove_first.ensures.items ∙ gone) in
     record {
       answer = ap (λ o. ok_or o NoneThere) some;
       waiting = so.waiting;
-      capacity = ap (λ n. n / 46) c.remove-first.ensures.capacity;
-      memory = c.remove-first.ensures.memory ∙ ap (λ f. over f (wire_memory w)) (gone ∙ line_taken w v some ∙ ap lines_of (sym so.waiting));
+      capacity = ap (λ n. n / 46) c.remove_first.ensures.capacity;
+      memory = c.remove_first.ensures.memory ∙ ap (λ f. over f (wire_memory w)) (gone ∙ line_taken w v some ∙ ap lines_of (sym so.waiting));
     }
