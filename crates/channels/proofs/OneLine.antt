@@ -1,6 +1,6 @@
 -- The line of a lawful message has its only byte 10 at its end, so that the first line of lines is the first message's.
 use Rattle.std.proofs.Common.{◌≡◌, ℕ, ◌+◌, ◌^◌, ◌<◌, ◌≤◌, Bool, true, false, cond, eqb, List, [], ◌∷◌, ◌++◌, length, get_or, drop, decimal, sym, refl, ap, ◌∙◌, arith}
-use Rattle.std.specs.List.{AllByRecursion as All}
+use Rattle.std.specs.List.{AllByRecursion}
 use Rattle.std.proofs.lemmas.Fmt.{decimal_is_IsNumeral}
 use Rattle.std.proofs.ByRecursion.{All-from_get_or}
 use Rattle.std.proofs.lemmas.List.{drop_at}
@@ -25,12 +25,12 @@ Inside b = eqb b 10 ≡ false
 abbrev pub OneLine : List ℕ → Type 0
 OneLine bs = (more : List ℕ) → first_line (bs ++ more) ≡ bs
 
-within : (xs ys : List ℕ) → All Inside xs → OneLine ys → OneLine (xs ++ ys)
+within : (xs ys : List ℕ) → AllByRecursion Inside xs → OneLine ys → OneLine (xs ++ ys)
 within [] ys inside line more = line more
 within (x ∷ xs) ys inside line more =
     ap (λ b. x ∷ cond b [] (first_line ((xs ++ ys) ++ more))) inside.0 ∙ ap (λ l. x ∷ l) (within xs ys inside.1 line more)
 
-key_inside : (k : Key) → All Inside (key_text k)
+key_inside : (k : Key) → AllByRecursion Inside (key_text k)
 key_inside KindKey = (refl, (refl, (refl, (refl, (refl, tt)))))
 key_inside Tn = (refl, (refl, (refl, (refl, tt))))
 key_inside A = (refl, (refl, (refl, tt)))
@@ -51,7 +51,7 @@ letter_inside RemoteUserFree = refl
 letter_inside CallDone = refl
 letter_inside CallBusy = refl
 
-decimal_inside : (n : ℕ) → n < 2 ^ 64 → All Inside (decimal n)
+decimal_inside : (n : ℕ) → n < 2 ^ 64 → AllByRecursion Inside (decimal n)
 decimal_inside n small =
     All-from_get_or Inside (decimal n) 0 (λ i h. let d = digit_at (decimal n) i (decimal_is_IsNumeral n small).0.1 h in ne_eqb (get_or (decimal n) i 0) 10 (λ e. omega arith))
 

@@ -1,6 +1,6 @@
 -- What is posted: one message, and several of which all are lawful and fit.
 use Rattle.std.proofs.Common.{◌≡◌, ℕ, ◌+◌, ◌<◌, ◌≤◌, Bool, true, false, cond, leb, List, [], ◌∷◌, ◌++◌, length, Ok, Err, Result, sym, refl, ap, ◌∙◌, arith}
-use Rattle.std.specs.List.{AllByRecursion as All}
+use Rattle.std.specs.List.{AllByRecursion}
 use Rattle.std.proofs.lemmas.List.{append_assoc, append-nil, length_push}
 use Rattle.std.proofs.lemmas.Bool.{cond-true, cond-false, lt-leb}
 use Rattle.answers.specs.declared.denial.Denial.{Denial}
@@ -23,7 +23,7 @@ pub put_end : (capacity : ℕ) (ms : List Values) (p : Values) → length ms < c
 put_end capacity ms p free = cond-false (full capacity ms) ms (ms ++ p ∷ []) (lt-leb capacity (length ms) free)
 
 -- lawful messages that fit go to the end, all of them
-pub posts_all : (capacity : ℕ) (ms ps : List Values) → All (λ v. is_lawful v ≡ true) ps → length ms + length ps ≤ capacity → posts capacity ms ps ≡ ms ++ ps
+pub posts_all : (capacity : ℕ) (ms ps : List Values) → AllByRecursion (λ v. is_lawful v ≡ true) ps → length ms + length ps ≤ capacity → posts capacity ms ps ≡ ms ++ ps
 posts_all capacity ms [] lawful fit = sym (append-nil ms)
 posts_all capacity ms (p ∷ ps) lawful fit =
     let one : posted capacity ms p ≡ ms ++ p ∷ [] = cond-true (is_lawful p) (put_left capacity ms p) ms lawful.0 ∙ put_end capacity ms p (omega arith) in

@@ -1,6 +1,6 @@
 -- Lines and the messages that they say: back and forth, how long they are, the first of them.
 use Rattle.std.proofs.Common.{◌≡◌, ℕ, zero, suc, ◌+◌, ◌*◌, ◌/◌, ◌<◌, ◌≤◌, Bool, true, false, List, [], ◌∷◌, ◌++◌, length, drop, Some, None, Ok, Err, Result, sym, refl, ap, ◌∙◌, arith}
-use Rattle.std.specs.List.{AllByRecursion as All}
+use Rattle.std.specs.List.{AllByRecursion}
 use Rattle.std.proofs.lemmas.List.{append_assoc, append-nil, drop_at, flat_map_more, length-append}
 use Rattle.messages.specs.declared.values.Values.{Values}
 use Rattle.messages.specs.declared.wire.unread.Unread.{Unread}
@@ -13,7 +13,7 @@ use Rattle.channels.specs.Meaning.{first, rest}
 use Rattle.channels.proofs.OneLine.{one_line}
 
 abbrev pub Lawful : List Values → Type 0
-Lawful vs = All (λ v. is_lawful v ≡ true) vs
+Lawful vs = AllByRecursion (λ v. is_lawful v ≡ true) vs
 
 line_says_lem : (v : Values) → is_lawful v ≡ true → line_says (line_of v) ≡ v ∷ []
 unfolding line_says

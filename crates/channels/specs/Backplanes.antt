@@ -2,7 +2,7 @@
 -- Its promises tell the whole of its memory too, so that what stays past the records is known.
 use Rattle.std.specs.Prelude.{◌≡◌, ℕ, ◌≤◌, true, List, [], ◌∷◌, map, length}
 use Rattle.std.proofs.Common.{arith}
-use Rattle.std.specs.List.{AllByRecursion as All}
+use Rattle.std.specs.List.{AllByRecursion}
 use Rattle.std.proofs.lemmas.List.{length-map, length-take}
 use Rattle.messages.specs.declared.message.Message.{Message}
 use Rattle.messages.specs.declared.values.Values.{Values}
@@ -31,9 +31,9 @@ back_waiting c = values_of (records c)
 pub back_fits : (c : Backplane) → length (back_waiting c) ≤ back_capacity c
 back_fits c = omega (arith, length-map (records c) (λ (m : Message). m.values), length-take c.line.used (back_memory c))
 
-all_lawful : (ms : List Message) → All (λ v. is_lawful v ≡ true) (values_of ms)
+all_lawful : (ms : List Message) → AllByRecursion (λ v. is_lawful v ≡ true) (values_of ms)
 all_lawful [] = tt
 all_lawful (m ∷ ms) = (m.lawful, all_lawful ms)
 
-pub back_lawful : (c : Backplane) → All (λ v. is_lawful v ≡ true) (back_waiting c)
+pub back_lawful : (c : Backplane) → AllByRecursion (λ v. is_lawful v ≡ true) (back_waiting c)
 back_lawful c = all_lawful (records c)

@@ -1,7 +1,7 @@
 -- Messages as bytes: their lines one after another, and the messages that the first lines of some bytes say.
 -- A line goes up to and with its byte 10; one that says no lawful message counts for nothing.
 use Rattle.std.specs.Prelude.{◌≡◌, ℕ, zero, suc, true, cond, List, [], ◌∷◌, ◌++◌, length, drop, Ok, Err, Result, ◌==◌, refl}
-use Rattle.std.specs.List.{flat_map, AllByRecursion as All}
+use Rattle.std.specs.List.{flat_map, AllByRecursion}
 use Rattle.std.proofs.ByRecursion.{All-append}
 use Rattle.messages.specs.declared.values.Values.{Values}
 use Rattle.messages.specs.declared.wire.unread.Unread.{Unread}
@@ -33,14 +33,14 @@ messages_in zero bs = []
 messages_in (suc n) bs = line_says (first_line bs) ++ messages_in n (drop (length (first_line bs)) bs)
 
 -- helpers: what is read is lawful
-read_lawful : (line : List ℕ) (r : Result Values Unread) → reading_of line ≡ r → All (λ v. is_lawful v ≡ true) (read_only r)
+read_lawful : (line : List ℕ) (r : Result Values Unread) → reading_of line ≡ r → AllByRecursion (λ v. is_lawful v ≡ true) (read_only r)
 read_lawful line (Ok v) e = ((trip.only line v e).1, tt)
 read_lawful line (Err why) e = tt
 
-line_lawful : (line : List ℕ) → All (λ v. is_lawful v ≡ true) (line_says line)
+line_lawful : (line : List ℕ) → AllByRecursion (λ v. is_lawful v ≡ true) (line_says line)
 unfolding line_says
 line_lawful line = read_lawful line (reading_of line) refl
 
-pub messages_lawful : (n : ℕ) (bs : List ℕ) → All (λ v. is_lawful v ≡ true) (messages_in n bs)
+pub messages_lawful : (n : ℕ) (bs : List ℕ) → AllByRecursion (λ v. is_lawful v ≡ true) (messages_in n bs)
 messages_lawful zero bs = tt
 messages_lawful (suc n) bs = All-append (λ v. is_lawful v ≡ true) (line_says (first_line bs)) (messages_in n _) (line_lawful (first_line bs)) (messages_lawful n _)

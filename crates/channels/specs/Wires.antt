@@ -2,7 +2,7 @@
 -- the bytes of the longest line, are a place.
 use Rattle.std.specs.Prelude.{◌≡◌, ℕ, ◌/◌, ◌≤◌, true, List, length}
 use Rattle.std.proofs.Common.{arith}
-use Rattle.std.specs.List.{AllByRecursion as All}
+use Rattle.std.specs.List.{AllByRecursion}
 use Rattle.messages.specs.declared.values.Values.{Values}
 use Rattle.messages.specs.Lawful.{is_lawful}
 use Rattle.waiting_line.specs.Lines.{memory, items, capacity}
@@ -22,5 +22,5 @@ wire_waiting w = messages_in w.count (items w.bytes)
 pub wire_fits : (w : Wire) → length (wire_waiting w) ≤ wire_capacity w
 wire_fits w = omega (arith, w.counted, w.fits)
 
-pub wire_lawful : (w : Wire) → All (λ v. is_lawful v ≡ true) (wire_waiting w)
+pub wire_lawful : (w : Wire) → AllByRecursion (λ v. is_lawful v ≡ true) (wire_waiting w)
 wire_lawful w = messages_lawful w.count (items w.bytes)

@@ -1,5 +1,5 @@
 ghost use Rattle.std.specs.Prelude.{◌≡◌, ℕ, ◌-◌, ◌≤◌, true, List, length};
-ghost use Rattle.std.specs.List.{AllByRecursion as All};
+ghost use Rattle.std.specs.List.{AllByRecursion};
 ghost use Rattle.messages.specs.declared.values.Values.{Values};
 ghost use Rattle.messages.specs.Lawful.{is_lawful};
 ghost use Rattle.messages.specs.Made.{said};
@@ -17,7 +17,7 @@ pub trait Channel {
 
     ghost fits: { (c : Self) → length (waiting c) ≤ capacity c };
 
-    ghost lawful: { (c : Self) → All (λ v. is_lawful v ≡ true) (waiting c) };
+    ghost lawful: { (c : Self) → AllByRecursion (λ v. is_lawful v ≡ true) (waiting c) };
 
     /// How many messages it can hold.
     fn capacity(&self) -> usize

@@ -1,7 +1,7 @@
 -- Lines and what they come to: a message, a line that is no lawful message (14), or no line (15) with its key, its cause
 -- and its byte. One list, one assertion, computed by the checker.
 use Rattle.std.specs.Prelude.{◌≡◌, ℕ, List, [], ◌∷◌, ◌++◌, Ok, Err, codes, Result}
-use Rattle.std.specs.List.{AllByRecursion as All}
+use Rattle.std.specs.List.{AllByRecursion}
 use Rattle.lines.specs.declared.fault.Fault.{Fault}
 use Rattle.lines.specs.declared.fault.Fault.TheVariants.{Text, Number, End}
 use Rattle.lines.specs.declared.number.NumberCause.TheVariants.{NoNumber, Beyond}
@@ -78,4 +78,4 @@ cases =
 
 -- every line of the list comes to what stands beside it
 abbrev pub LinesCome : Type 0
-LinesCome = All (λ (c : Case). reading_of c.line ≡ c.comes) cases
+LinesCome = AllByRecursion (λ (c : Case). reading_of c.line ≡ c.comes) cases

@@ -12,5 +12,5 @@ loop-b-preserved c =
     let b = c.loop-b.b in
     let near : b < 64 = omega arith in
     let line = ap (λ (l : LineFacts). l.busy) (get_or_default ls b _ _ c.loop-b-test.true) in
-    told_more (runs_at rs ls) c.loop-b.runs b c.is-guarded.result c.loop-b.invariant.0 near c.loop-b.invariant.1
-    (told_here rs ls b _ _ _ _ line (c.noted-recalling.ensures b near) (c.noted-queued.ensures b near) c.is-guarded.ensures)
+    told_more (runs_at rs ls) c.loop-b.runs b c.is_guarded.result c.loop-b.invariant.0 near c.loop-b.invariant.1
+    (told_here rs ls b _ _ _ _ line (c.noted-recalling.ensures b near) (c.noted-queued.ensures b near) c.is_guarded.ensures)

@@ -12,9 +12,9 @@ loop-record-init c = (refl, λ b l. get_or-replicate 64 b false false l)
 pub loop-record-preserved : goal.loop-record-preserved
 loop-record-preserved c =
     let here = c.loop-record-test.true in
-    elim c.if-is-noted.branch [
-      | then-is-noted w ↦ noted_one _ c.args.records.now _ _ here _ (get_or_default c.args.records.now _ _ _ here) _ w.any-is c.loop-record.invariant (sym w.if-is-noted.ensures)
-      | else-is-noted w ↦ noted_none _ c.args.records.now _ _ here _ (get_or_default c.args.records.now _ _ _ here) _ w.any-is c.loop-record.invariant (sym w.if-is-noted.ensures)
+    elim c.if-is_noted.branch [
+      | then-is-noted w ↦ noted_one _ c.args.records.now _ _ here _ (get_or_default c.args.records.now _ _ _ here) _ w.any-is c.loop-record.invariant (sym w.if-is_noted.ensures)
+      | else-is-noted w ↦ noted_none _ c.args.records.now _ _ here _ (get_or_default c.args.records.now _ _ _ here) _ w.any-is c.loop-record.invariant (sym w.if-is_noted.ensures)
     ]
 
 pub returns : goal.returns

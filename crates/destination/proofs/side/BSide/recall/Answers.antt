@@ -10,8 +10,8 @@ pub returns-in-None : goal.returns-in-None
 returns-in-None g c =
     let before = c.args.self.now in
     let s = b_of before in
-    let cap = g.C.Channel.capacity c.args.to-a.now in
-    let ws = g.C.Channel.waiting c.args.to-a.now in
+    let cap = g.C.Channel.capacity c.args.to_a.now in
+    let ws = g.C.Channel.waiting c.args.to_a.now in
     let queued = first_by (queued_at c.args.destination) in
     let none : queued s.records ≡ None = ap queued (sym c.all.ensures) ∙ sym c.in-None.ensures in
     let same = ap (recalling_one s) (sym none) in

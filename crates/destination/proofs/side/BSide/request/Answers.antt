@@ -11,8 +11,8 @@ pub returns-in-Some : goal.returns-in-Some
 returns-in-Some g c =
     let s = b_of c.args.self.now in
     let m = c.args.message in
-    let cap = g.C.Channel.capacity c.args.to-a.now in
-    let ws = g.C.Channel.waiting c.args.to-a.now in
+    let cap = g.C.Channel.capacity c.args.to_a.now in
+    let ws = g.C.Channel.waiting c.args.to_a.now in
     let same = ap (on_new s m) c.in-Some.ensures in
     record {
       acted = idle_acted c.args.self.now _ _ _ same;

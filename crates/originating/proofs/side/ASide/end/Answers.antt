@@ -13,7 +13,7 @@ returns-in-Some c =
     let left = c.remove.ensures in
     record { answer = refl; side = search rules; memory = left.memory ∙ ap (λ l. over l (a_memory c.args.self.now)) (sym left.items) }
 
-pub returns-in-default : goal.returns-in-default
-returns-in-default c =
+pub returns-in_default : goal.returns-in_default
+returns-in_default c =
     let s = a_of c.args.self.now in
-    record { answer = refl; side = ap (with_records s) (ends_none c.args.tn s.records _ c.all.ensures c.in-default.ensures.place); memory = over_same c.args.self.now.records }
+    record { answer = refl; side = ap (with_records s) (ends_none c.args.tn s.records _ c.all.ensures c.in_default.ensures.place); memory = over_same c.args.self.now.records }

@@ -22,25 +22,25 @@ loop-place-preserved g c =
     let ch = g.C.Channel in
     let i = c.loop-place.place in
     let mid = c.loop-place.self in
-    let to_b = c.loop-place.to-b in
-    let start = c.args.to-b.now in
+    let to_b = c.loop-place.to_b in
+    let start = c.args.to_b.now in
     let turn = c.loop-place.invariant in
     let all = c.all-in-loop-place.result.now in
     let shown = c.all-in-loop-place.ensures in
     let entry = c.args.self.now in
     let here : i < length (a_of entry).records = omega (arith, c.loop-place-test.true, c.len-place-end.ensures.length) in
-    let noted : (u : ℕ) → u < 256 → get_or c.engaged-users-engaged.result u false ≡ some (engages u) (a_of entry).records = λ u h. c.engaged-users-engaged.ensures u h ∙ ap (some (engages u)) c.all.ensures in
-    elim c.if-is-resumable.branch [
+    let noted : (u : ℕ) → u < 256 → get_or c.engaged_users-engaged.result u false ≡ some (engages u) (a_of entry).records = λ u h. c.engaged_users-engaged.ensures u h ∙ ap (some (engages u)) c.all.ensures in
+    elim c.if-is_resumable.branch [
       | then-is-resumable w ↦
-          turn_woken entry _ _ i here mid _ _ turn _ all shown (w.if-is-resumable.ensures (a_of entry).records noted) _ _ _
+          turn_woken entry _ _ i here mid _ _ turn _ all shown (w.if-is_resumable.ensures (a_of entry).records noted) _ _ _
           (ap a_of w.self-is ∙ with_records_lem (a_of mid) _ _ _ w.replace.ensures.capacity w.replace.ensures.items)
           (ap a_memory w.self-is ∙ w.replace.ensures.memory)
           (ap ch.capacity w.to-b-is ∙ w.post.ensures.capacity)
           (ap ch.waiting w.to-b-is ∙ w.post.ensures.waiting ∙ ap (posted (ch.capacity to_b) (ch.waiting to_b)) w.plain.ensures)
       | else-is-resumable w ↦
-          subst (λ self. Turn entry (ch.capacity start) (ch.waiting start) (i + 1) self (ch.capacity c.if-is-resumable.to-b) (ch.waiting c.if-is-resumable.to-b)) (sym w.self-is)
+          subst (λ self. Turn entry (ch.capacity start) (ch.waiting start) (i + 1) self (ch.capacity c.if-is_resumable.to_b) (ch.waiting c.if-is_resumable.to_b)) (sym w.self-is)
           (subst (λ b. Turn entry (ch.capacity start) (ch.waiting start) (i + 1) mid (ch.capacity b) (ch.waiting b)) (sym w.to-b-is)
-          (turn_asleep entry _ _ i here mid _ _ turn _ all shown (w.if-is-resumable.ensures (a_of entry).records noted)))
+          (turn_asleep entry _ _ i here mid _ _ turn _ all shown (w.if-is_resumable.ensures (a_of entry).records noted)))
     ]
 
 pub returns : goal.returns

@@ -5,5 +5,5 @@ use Rattle.originating.proofs.side.ASide.stray.Goals as goal
 pub returns-in-Result : goal.returns-in-Result
 returns-in-Result g c = let same = over_same c.args.self.now.records in search rules
 
-pub returns-in-default : goal.returns-in-default
-returns-in-default g c = let same = over_same c.args.self.now.records in search rules
+pub returns-in_default : goal.returns-in_default
+returns-in_default g c = let same = over_same c.args.self.now.records in search rules

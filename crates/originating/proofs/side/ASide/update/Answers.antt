@@ -18,8 +18,8 @@ returns-in-Some c =
       memory = left.memory ∙ over_many c.args.self.now.records _ (length-set s.records c.in-Some.place r) ∙ ap (λ l. over l (a_memory c.args.self.now)) (sym left.items);
     }
 
-pub returns-in-default : goal.returns-in-default
-returns-in-default c =
+pub returns-in_default : goal.returns-in_default
+returns-in_default c =
     let s = a_of c.args.self.now in
     let r = c.args.request in
-    record { side = ap (with_records s) (becomes_none r.tn s.records _ c.all.ensures c.in-default.ensures.place r refl); memory = over_same c.args.self.now.records }
+    record { side = ap (with_records s) (becomes_none r.tn s.records _ c.all.ensures c.in_default.ensures.place r refl); memory = over_same c.args.self.now.records }

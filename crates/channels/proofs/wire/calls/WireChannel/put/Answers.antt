@@ -32,14 +32,14 @@ returns-in_err-put_all c =
     absurd (line_not_denied w c.args.message.values _ c.args.message.lawful (c.as_bytes.ensures ∙ c.write.ensures) free _ c.in_err-put_all.ensures.answer)
 
 pub overflow_add-self : goal.overflow_add-self
-overflow_add-self c = omega (arith, c.args.self.now.fits, c.capacity.ensures, c.capacity.type-inv, c.if-self-capacity.false)
+overflow_add-self c = omega (arith, c.args.self.now.fits, c.capacity.ensures, c.capacity.type_inv, c.if-self-capacity.false)
 
 pub invariant_of-self-2 : goal.invariant_of-self-2
 invariant_of-self-2 c =
     let w = c.args.self.now in
     let free : length (wire_waiting w) < wire_capacity w = omega (arith, w.counted, w.fits, c.capacity.ensures, c.if-self-capacity.false) in
     let so = put_settled w c.args.message.values _ c.args.message.lawful (c.as_bytes.ensures ∙ c.write.ensures) free _ c.put_all.ensures.items in
-    (so.lines, (so.counted, (omega (arith, free, w.counted, c.put_all.ensures.capacity), tt)))
+    record { lines = so.lines; counted = so.counted; fits = omega (arith, free, w.counted, c.put_all.ensures.capacity) }
 
 pub returns : goal.returns
 returns c =

@@ -15,7 +15,7 @@ invariant_of-self c =
     let some = sym (ap seen c.in_ok-message.ensures.ok_part) ∙ c.look.ensures in
     let gone = ap (λ l. drop (length l) (items w.bytes)) (c.first_line-len.ensures ∙ ap first_line c.all.ensures) in
     let so = take_settled w c.in_ok-message.message.values some _ (c.remove_first.ensures.items ∙ gone) in
-    (so.lines, (so.counted, (omega (arith, w.fits, c.remove_first.ensures.capacity), tt)))
+    record { lines = so.lines; counted = so.counted; fits = omega (arith, w.fits, c.remove_first.ensures.capacity) }
 
 pub overflow_sub-self : goal.overflow_sub-self
 overflow_sub-self c =
