@@ -13,8 +13,8 @@ pub struct ASide<'m> {
 
 mod acts;
 pub mod calls;
+mod changes;
 mod decides;
 mod receives;
 mod resumes;
-mod tables;
 mod tests;
