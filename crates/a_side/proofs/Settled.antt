@@ -1,5 +1,5 @@
 -- Between calls no Suspended record of a user who is not CCBS-busy stands: the resumption leaves none, and a tick or a busy line makes none.
-use Rattle.std.proofs.Common.{◌≡◌, ℕ, zero, suc, Bool, true, false, cond, not, ◌&&◌, ◌||◌, eqb, List, [], ◌∷◌, map, get_or, set, sym, refl, ap, ◌∙◌, arith}
+use Rattle.std.proofs.Common.{◌≡◌, ℕ, zero, suc, Bool, true, false, cond, not, ◌&&◌, ◌||◌, eqb, List, [], ◌∷◌, map, get_or, set, sym, refl, ap, ◌∙◌}
 use Rattle.std.proofs.lemmas.Bool.{and_parts, or_parts, or_from, or_right}
 use Rattle.tables.proofs.Tables.{never}
 use Rattle.waiting_line.specs.Searches.{some}

@@ -20,7 +20,7 @@ use Rattle.messages.specs.Sent.{plain, cancelling}
 use Rattle.a_side.specs.declared.record.AState.{AState}
 use Rattle.a_side.specs.declared.record.AState.TheVariants.{Requested, Waiting, Recalled, Suspended, Calling}
 use Rattle.a_side.specs.declared.record.ARecord.{ARecord}
-use Rattle.a_side.specs.Rules.{AModel, AEffect, a_tn, a_due, due2, due3, does, carried_out, settled, resumed, resumable, resumptions, standing, stands_for, accept, requested_by, activating, withdrawing, answering, answering_at, answering_one, line_freeing, a_aged, a_expiring, a_expiring_at, a_receiving, a_receiving_at, a_returning, a_returning_at, on_record, on_stray, on_result, on_free, on_free_waiting, on_busy, on_kept, on_returned, when_accepted, when_recalled, when_answered, becomes, is_suspended, recalled_or_calling, ccbs_busy, line_busy, with_line, unfit_a, a_fit, no_such_user, fewer_than_five, identical, activate_refusal, withdraw_refusal, answer_refusal}
+use Rattle.a_side.specs.Rules.{AModel, AEffect, a_tn, a_due, due2, due3, does, carried_out, resumed, resumable, resumptions, standing, stands_for, accept, requested_by, activating, withdrawing, answering, answering_at, answering_one, line_freeing, a_aged, a_expiring, a_expiring_at, a_receiving, a_receiving_at, a_returning, a_returning_at, on_record, on_stray, on_result, on_free, on_free_waiting, on_busy, on_kept, on_returned, when_accepted, when_recalled, when_answered, becomes, is_suspended, recalled_or_calling, ccbs_busy, line_busy, with_line, unfit_a, a_fit, no_such_user, fewer_than_five, identical, activate_refusal, withdraw_refusal, answer_refusal}
 use Rattle.a_side.specs.Tidy.{of_user, Rises, Tidy, Keeps, Five, FiveSuffice}
 use Rattle.a_side.proofs.Settled.{engages, and_false, settled_none, ticked_none, busied_none}
 

@@ -1,5 +1,5 @@
 -- What a call leaves of every transaction's spot: of its own the step, of the resumed ones the resumption, of the others nothing.
-use Rattle.std.proofs.Common.{◌≡◌, ℕ, ◌+◌, ◌≤◌, Bool, true, false, cond, eqb, List, [], ◌∷◌, ◌++◌, map, length, filter, sym, refl, ap, ◌∙◌, subst, arith}
+use Rattle.std.proofs.Common.{◌≡◌, ℕ, ◌≤◌, Bool, true, false, cond, eqb, List, [], ◌∷◌, ◌++◌, map, length, filter, sym, refl, ap, ◌∙◌, subst, arith}
 use Rattle.std.proofs.lemmas.Bool.{and_parts}
 use Rattle.answers.specs.declared.answer.Answer.{Answer}
 use Rattle.answers.specs.declared.denial.Denial.{Denial}
@@ -11,7 +11,7 @@ use Rattle.messages.specs.Sent.{plain}
 use Rattle.a_side.specs.declared.record.AState.{AState}
 use Rattle.a_side.specs.declared.record.AState.TheVariants.{Requested, Waiting, Recalled, Suspended, Calling}
 use Rattle.a_side.specs.declared.record.ARecord.{ARecord}
-use Rattle.a_side.specs.Rules.{AModel, a_tn, resumable, resumed, resumptions, becomes, runs2, is_suspended}
+use Rattle.a_side.specs.Rules.{AModel, a_tn, resumable, resumed, becomes, runs2, is_suspended}
 use Rattle.b_side.specs.declared.record.BRecord.{BRecord}
 use Rattle.b_side.specs.Rules.{b_tn}
 use Rattle.agreement.specs.declared.call.Call.{Call}

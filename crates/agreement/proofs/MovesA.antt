@@ -4,7 +4,7 @@ use Rattle.answers.specs.declared.cause.Cause.{Cause}
 use Rattle.answers.specs.declared.answer.Answer.{Answer}
 use Rattle.answers.specs.declared.answer.Answer.TheVariants.{Nothing as nothing, Requested as requested_n, Stray as stray, Ended as ended}
 use Rattle.tables.specs.Tables.{same, added, became, removed, those, changed}
-use Rattle.tables.proofs.Tables.{own, those_one_own, those_one_other, nil_right}
+use Rattle.tables.proofs.Tables.{those_one_own, those_one_other, nil_right}
 use Rattle.messages.specs.declared.values.Values.{Values}
 use Rattle.messages.specs.Sent.{cancelling}
 use Rattle.a_side.specs.declared.record.ARecord.{ARecord}

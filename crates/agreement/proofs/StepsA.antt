@@ -1,11 +1,10 @@
 -- Each call of the originating side moves every transaction by the moves.
-use Rattle.std.proofs.Common.{◌≡◌, ℕ, ◌+◌, ◌≤◌, Bool, true, false, cond, eqb, List, [], ◌∷◌, ◌++◌, map, length, Some, None, Option, sym, refl, ap, ◌∙◌, subst, arith}
+use Rattle.std.proofs.Common.{◌≡◌, ℕ, ◌≤◌, Bool, true, false, cond, eqb, List, [], ◌∷◌, ◌++◌, map, length, Some, None, Option, sym, refl, ap, ◌∙◌, subst, arith}
 use Rattle.std.proofs.lemmas.List.{append_assoc}
 use Rattle.std.proofs.lemmas.Bool.{eqb-true, and_parts}
 use Rattle.answers.specs.declared.denial.Denial.{Denial}
 use Rattle.answers.specs.declared.cause.Cause.{Cause}
 use Rattle.answers.specs.declared.cause.Cause.TheVariants.{T3Over, T4Over, Withdrawn, ShortTermDenial, LongTermDenial, Completed, BusyAgain, CallReturned}
-use Rattle.answers.specs.declared.answer.Answer.{Answer}
 use Rattle.answers.specs.declared.answer.Answer.TheVariants.{Done as done, Nothing as nothing, Accepted as accepted, Recall as recall, Suspended as suspended, Calling as calling, Kept as kept, Ended as ended}
 use Rattle.answers.specs.Numbers.{cause_of}
 use Rattle.tables.specs.Tables.{same, removed, found, those, changed, first_by}

@@ -1,5 +1,5 @@
 -- What is on the way: a transaction pending at one side only has a message that tells the other, unless one was returned.
-use Rattle.std.proofs.Common.{◌≡◌, ◌+◌, Bool, true, false, not, ◌||◌, List, [], ◌∷◌, ◌++◌, sym, refl, ap, ◌∙◌, arith}
+use Rattle.std.proofs.Common.{◌≡◌, Bool, true, false, ◌||◌, List, [], ◌∷◌, ◌++◌, sym, refl, ap, ◌∙◌}
 use Rattle.std.proofs.lemmas.Bool.{or_left, or_right, or_parts}
 use Rattle.waiting_line.specs.Searches.{some}
 use Rattle.tables.proofs.Tables.{never, rest}

@@ -1,6 +1,6 @@
 -- The edge cases of the rules, each with what it must come to: one list, one assertion.
 -- A run is tried on a fresh pair with 320 record places a side, 64 lines and 16 messages a channel; a line by reading it.
-use Rattle.std.specs.Prelude.{◌≡◌, ℕ, List, [], ◌∷◌, map, replicate, Ok, Err, codes, Result}
+use Rattle.std.specs.Prelude.{◌≡◌, ℕ, List, [], ◌∷◌, map, replicate, Err, codes, Result}
 use Prim.Native.String.{String}
 use Rattle.answers.specs.declared.answer.Answer.TheVariants.{Done, Nothing, Requested, Accepted, Recall, Suspended, Calling, Kept, Stray, Stored, Rejected, Freed, Resumed, Ended}
 use Rattle.answers.specs.declared.cause.Cause.TheVariants.{NotGiven, T7Over, Withdrawn, ShortTermDenial, MessageReturned}

@@ -1,6 +1,6 @@
 -- What a run tells, in the subject's words: a history is the list of its calls with their outcomes, the latest first.
 -- Every word goes by the calls' answers and their transaction alone; a request's destination is its activation's.
-use Rattle.std.specs.Prelude.{◌≡◌, ℕ, ◌+◌, Bool, true, false, cond, not, ◌&&◌, ◌||◌, List, [], ◌∷◌, ◌++◌, Some, None, codes, Option, ◌==◌}
+use Rattle.std.specs.Prelude.{◌≡◌, ℕ, Bool, true, false, cond, not, ◌&&◌, ◌||◌, List, [], ◌∷◌, ◌++◌, Some, None, codes, Option, ◌==◌}
 use Prim.Native.String.{String}
 use Rattle.std.specs.Str.{bytes_eq}
 use Rattle.answers.specs.declared.answer.Answer.{Answer}

@@ -1,14 +1,13 @@
 -- A line of messages and the list of what they say.
-use Rattle.std.proofs.Common.{◌≡◌, ℕ, Bool, true, false, cond, leb, List, [], ◌∷◌, ◌++◌, map, length, Some, None, Ok, Err, Result, sym, refl, ap, ◌∙◌}
+use Rattle.std.proofs.Common.{◌≡◌, ℕ, Bool, true, false, cond, leb, List, [], ◌∷◌, ◌++◌, Some, Ok, Err, Result, sym, refl, ap, ◌∙◌}
 use Rattle.std.specs.List.{remove}
 use Rattle.std.proofs.lemmas.List.{length-map, map_push}
 use Rattle.answers.specs.declared.denial.Denial.{Denial}
-use Rattle.answers.specs.declared.denial.Denial.TheVariants.{NoFreePlace, NoneThere}
+use Rattle.answers.specs.declared.denial.Denial.TheVariants.{NoFreePlace}
 use Rattle.messages.specs.declared.message.Message.{Message}
-use Rattle.messages.specs.declared.values.Values.{Values}
 use Rattle.messages.specs.Made.{said}
 use Rattle.waiting_line.specs.Lines.{put_answer, put_left, read_answer, full}
-use Rattle.channels.specs.Meaning.{first, rest, seen, taken}
+use Rattle.channels.specs.Meaning.{first, rest, taken}
 use Rattle.channels.specs.Backplanes.{values_of}
 
 module _ (n : ℕ) (xs : List Message) where

@@ -1,9 +1,8 @@
 -- The line of a lawful message has its only byte 10 at its end, so that the first line of lines is the first message's.
-use Rattle.std.proofs.Common.{◌≡◌, ℕ, ◌+◌, ◌^◌, ◌<◌, ◌≤◌, Bool, true, false, cond, eqb, List, [], ◌∷◌, ◌++◌, length, get_or, drop, decimal, sym, refl, ap, ◌∙◌, arith}
+use Rattle.std.proofs.Common.{◌≡◌, ℕ, ◌^◌, ◌<◌, true, false, cond, eqb, List, [], ◌∷◌, ◌++◌, get_or, decimal, refl, ap, ◌∙◌, arith}
 use Rattle.std.specs.List.{AllByRecursion}
 use Rattle.std.proofs.lemmas.Fmt.{decimal_is_IsNumeral}
 use Rattle.std.proofs.ByRecursion.{All-from_get_or}
-use Rattle.std.proofs.lemmas.List.{drop_at}
 use Rattle.std.proofs.lemmas.Str.Parse.{digit_at}
 use Rattle.std.proofs.lemmas.Bool.{ne_eqb}
 use Rattle.messages.specs.declared.kind.Kind.{Kind}
@@ -14,7 +13,7 @@ use Rattle.messages.specs.declared.wire.key.Key.TheVariants.{Kind as KindKey, Tn
 use Rattle.messages.specs.Kinds.{letter_of}
 use Rattle.messages.specs.Lawful.{is_lawful}
 use Rattle.messages.specs.Wire.{key_text, line_of}
-use Rattle.messages.proofs.Bounds.{Within, bounds}
+use Rattle.messages.proofs.Bounds.{bounds}
 use Rattle.channels.specs.Lined.{first_line}
 
 -- the byte ends no line

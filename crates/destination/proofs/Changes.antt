@@ -1,5 +1,5 @@
 -- One change of a side: of its records, by place as by first match, or of its lines.
-use Rattle.std.proofs.Common.{◌≡◌, ℕ, suc, ◌+◌, ◌<◌, ◌≤◌, Bool, true, false, cond, eqb, leb, List, [], ◌∷◌, ◌++◌, map, length, get_or, take, drop, set, Some, None, sym, refl, ap, ◌∙◌, arith, Bor}
+use Rattle.std.proofs.Common.{◌≡◌, ℕ, suc, ◌+◌, ◌<◌, ◌≤◌, Bool, true, false, cond, eqb, leb, List, [], ◌∷◌, ◌++◌, map, length, get_or, take, drop, set, Some, None, sym, refl, ap, ◌∙◌, arith, MutBor}
 use Rattle.std.specs.List.{remove}
 use Rattle.std.proofs.lemmas.List.{length-set, length-map, length_push, set_split, set_past, append_assoc}
 use Rattle.std.proofs.lemmas.Bool.{cond-false, leb-false}
@@ -74,8 +74,8 @@ module _ (s : BSide) where
   pub became_at : (r : BRecord) (i : ℕ) (w : WaitingLine BRecord) (seen : List BRecord) → seen ≡ rs → Some i ≡ first_where (λ (x : BRecord). eqb x.tn r.tn) seen → items w ≡ set rs i r → memory w ≡ set rs i r ++ spare s.records → capacity w ≡ capacity s.records → Changed (became r) s (with_line w)
   became_at r i w seen l e f m p = changed_to w (became r) (f ∙ sym ((placed b_tn r.tn rs i (sym (e ∙ ap (first_where (λ (x : BRecord). eqb x.tn r.tn)) l))).replaces r refl)) p (m ∙ same_front (set rs i r) (length-set rs i r) ∙ ap (λ l. over l mem) (sym f))
 
-  pub added : (r : BRecord) (w : WaitingLine BRecord) → leb (capacity s.records) (length rs) ≡ false → items w ≡ put_left (capacity s.records) rs r → memory w ≡ set mem (length rs) r → capacity w ≡ capacity s.records → Changed (added r) s (with_line w)
-  added r w free f m p =
+  pub added_lem : (r : BRecord) (w : WaitingLine BRecord) → leb (capacity s.records) (length rs) ≡ false → items w ≡ put_left (capacity s.records) rs r → memory w ≡ set mem (length rs) r → capacity w ≡ capacity s.records → Changed (added r) s (with_line w)
+  added_lem r w free f m p =
       let room = leb-false (capacity s.records) (length rs) free in
       let is : items w ≡ rs ++ r ∷ [] = f ∙ cond-false (full (capacity s.records) rs) rs (rs ++ r ∷ []) free in
       let front : take (length rs) mem ≡ rs = front_held s.records.used mem (length rs) refl in
@@ -85,7 +85,7 @@ module _ (s : BSide) where
       ∙ sym (append_assoc rs (r ∷ []) (drop (length (rs ++ r ∷ [])) mem)) ∙ ap (λ l. over l mem) (sym is))
 
   -- with other lines
-  pub lined_to : (ls : Bor (List LineFacts)) (lines : List LineFacts) → ls.now ≡ lines → Lined lines s (record { settings = s.settings; records = s.records; lines = ls })
+  pub lined_to : (ls : MutBor (List LineFacts)) (lines : List LineFacts) → ls.now ≡ lines → Lined lines s (record { settings = s.settings; records = s.records; lines = ls })
   lined_to ls lines e = record { side = λ i. record { settings = s.settings; places = capacity s.records; lines = e i; records = rs }; memory = kept_same s }
 
   -- after a tick of the records and of the lines

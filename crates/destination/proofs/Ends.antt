@@ -50,8 +50,8 @@ same_lines s after lines rs e n = sym (ap (λ (b : BModel). length b.lines) e �
 -- a change of the lines after a change of the records
 pub kept_then : (s mid after : BSide) (lines : List LineFacts) → Kept s mid → Lined lines mid after → Kept s after
 kept_then s mid after lines k l =
-    let same : (b_of after).records ≡ (b_of mid).records = ap (λ (b : BModel). b.records) l.side in
-    l.memory ∙ ap (λ rs. over rs (record_memory mid)) same ∙ sym (kept_same mid) ∙ k ∙ ap (λ rs. over rs (record_memory s)) (sym same)
+    let alike : (b_of after).records ≡ (b_of mid).records = ap (λ (b : BModel). b.records) l.side in
+    l.memory ∙ ap (λ rs. over rs (record_memory mid)) alike ∙ sym (kept_same mid) ∙ k ∙ ap (λ rs. over rs (record_memory s)) (sym alike)
 
 -- the guards last
 module _ (s mid after : BSide) (e : BEffect) (a : Answer) (acted : Acted e a s mid) (last : Lined (settled (b_of s) (b_of mid)) mid after) where
@@ -72,14 +72,14 @@ module _ (s mid after : BSide) (e : BEffect) (a : Answer) (acted : Acted e a s m
 
   -- an effect in other words
   pub accepted_as : (e' : BEffect) → e ≡ e' → (capacity : ℕ) (waiting : List Values) (refusal : Option Denial) → None ≡ refusal → Came (b_call (b_of s) capacity waiting refusal (accept (b_of s) e')) (Ok a) s after
-  accepted_as e' same capacity waiting refusal g = subst (λ x. Came (b_call (b_of s) capacity waiting refusal (accept (b_of s) x)) (Ok a) s after) same (accepted capacity waiting refusal g)
+  accepted_as e' alike capacity waiting refusal g = subst (λ x. Came (b_call (b_of s) capacity waiting refusal (accept (b_of s) x)) (Ok a) s after) alike (accepted capacity waiting refusal g)
 
 -- what waits after a call
 pub refused_waiting : (s : BModel) (capacity : ℕ) (waiting : List Values) (refusal : Option Denial) (done : BDone) (d : Denial) → Some d ≡ refusal → waiting ≡ (b_call s capacity waiting refusal done).waiting
 refused_waiting s capacity waiting refusal done d e = ap (λ o. (b_call s capacity waiting o done).waiting) e
 
 pub accepted_waiting : (s : BModel) (capacity : ℕ) (waiting left : List Values) (refusal : Option Denial) (e e' : BEffect) → e ≡ e' → left ≡ posts capacity waiting e.sent → None ≡ refusal → left ≡ (b_call s capacity waiting refusal (accept s e')).waiting
-accepted_waiting s capacity waiting left refusal e e' same w g = w ∙ ap (λ (x : BEffect). posts capacity waiting x.sent) same ∙ ap (λ o. (b_call s capacity waiting o (accept s e')).waiting) g
+accepted_waiting s capacity waiting left refusal e e' alike w g = w ∙ ap (λ (x : BEffect). posts capacity waiting x.sent) alike ∙ ap (λ o. (b_call s capacity waiting o (accept s e')).waiting) g
 
 -- a step that changes lines only
 pub lined_acted : (s mid : BSide) (e : BEffect) → e.change ≡ same → Lined e.lines s mid → Acted e e.answer s mid
@@ -94,7 +94,7 @@ not_row b d rest o e f = f ∙ ap (λ x. upper (row x d ∷ rest)) (sym e)
 
 -- a step that changes nothing
 pub idle_acted : (s : BSide) (e : BEffect) (a : Answer) (sent : List Values) → does (b_of s) a same sent ≡ e → Acted e a s s
-idle_acted s e a sent same = subst (λ x. Acted x a s s) same (record { answer = refl; side = refl; memory = kept_same s })
+idle_acted s e a sent alike = subst (λ x. Acted x a s s) alike (record { answer = refl; side = refl; memory = kept_same s })
 
 -- a denial by the upper rows, with more rows below them
 pub more_rows : (rows below : List (Option Denial)) (d : Denial) → Some d ≡ upper rows → Some d ≡ upper (rows ++ below)
@@ -103,7 +103,7 @@ more_rows (Some x ∷ rows) below d e = e
 more_rows (None ∷ rows) below d e = more_rows rows below d e
 
 pub acted_as : (s mid : BSide) (e e' : BEffect) (a : Answer) → e ≡ e' → Acted e a s mid → Acted e' a s mid
-acted_as s mid e e' a same acted = subst (λ x. Acted x a s mid) same acted
+acted_as s mid e e' a alike acted = subst (λ x. Acted x a s mid) alike acted
 
 -- a call that finds the line free: the record ends, and then the line becomes busy
 pub completed_acted : (s mid after : BSide) (r : BRecord) (a : Answer) → Acted (finishes (b_of s) r.tn Completed []) a s mid → Lined (line_set (b_of mid) r.destination true) mid after → Acted (completing (b_of s) r) a s after

@@ -1,5 +1,5 @@
 -- A line that was taken apart, and what is made of its values.
-use Rattle.std.proofs.Common.{◌≡◌, ℕ, Bool, true, false, cond, List, Ok, Err, Result, sym, refl, ap, ◌∙◌}
+use Rattle.std.proofs.Common.{◌≡◌, ℕ, Bool, true, false, cond, List, Ok, Err, Result, refl, ap, ◌∙◌}
 use Rattle.answers.specs.declared.denial.Denial.{Denial}
 use Rattle.answers.specs.declared.denial.Denial.TheVariants.{NotLawful as lawless}
 use Rattle.lines.specs.Results.{and_then, on_err}

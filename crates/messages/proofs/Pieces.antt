@@ -1,5 +1,5 @@
 -- A line written piece by piece fits, and is the message's line.
-use Rattle.std.proofs.Common.{◌≡◌, ℕ, ◌+◌, ◌≤◌, true, List, [], ◌∷◌, ◌++◌, length, decimal, sym, refl, ap, ◌∙◌, arith}
+use Rattle.std.proofs.Common.{◌≡◌, ℕ, true, List, [], ◌∷◌, length, decimal, refl, ap, ◌∙◌, arith}
 use Rattle.drafts.proofs.Added.{all_fit}
 use Rattle.drafts.specs.Drafts.{added_all, joined}
 use Rattle.messages.specs.declared.values.Values.{Values}

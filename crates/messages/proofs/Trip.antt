@@ -1,8 +1,8 @@
 -- Reading a message's line gives the message back, and whatever reads as a message is that message's line.
-use Rattle.std.proofs.Common.{◌≡◌, ℕ, ◌+◌, ◌<◌, ◌≤◌, Bool, true, false, cond, eqb, List, [], ◌∷◌, ◌++◌, length, drop, Some, None, Ok, Err, codes, decimal, Option, Result, sym, refl, ap, ◌∙◌, subst, arith}
+use Rattle.std.proofs.Common.{◌≡◌, ℕ, ◌+◌, Bool, true, false, cond, eqb, List, [], ◌∷◌, ◌++◌, length, drop, Some, None, Ok, Err, codes, decimal, Option, Result, sym, refl, ap, ◌∙◌, arith}
 use Rattle.std.proofs.lemmas.Bool.Decides.{nat_tests}
 use Rattle.lines.specs.declared.fault.LineFault.{LineFault}
-use Rattle.lines.specs.Results.{and_then, on_err}
+use Rattle.lines.specs.Results.{on_err}
 use Rattle.lines.specs.Tokens.{Seen, word, first_in, place_in, value_in}
 use Rattle.lines.proofs.Trip.{then_back, then_in, ok_same, text_to, text_from, letter_to, letter_from, field_to, field_from, end_to, end_from}
 use Rattle.messages.specs.declared.kind.Kind.{Kind}
@@ -17,7 +17,7 @@ use Rattle.messages.specs.Lawful.{is_lawful}
 use Rattle.messages.specs.Wire.{key_text, key_most, line_of}
 use Rattle.messages.specs.Parts.{Shown, kind_or, kind_at, parts_of, reading_of}
 use Rattle.messages.specs.Trip.{RoundTrip}
-use Rattle.messages.proofs.Bounds.{Within, bounds}
+use Rattle.messages.proofs.Bounds.{bounds}
 use Rattle.messages.proofs.Short.{line_short}
 
 -- the letter of a kind is read as that kind

@@ -8,7 +8,7 @@ use Rattle.lines.specs.declared.number.NumberCause.TheVariants.{NoNumber, Beyond
 use Rattle.messages.specs.declared.kind.Kind.TheVariants.{Request, Cancel}
 use Rattle.messages.specs.declared.values.Values.{Values}
 use Rattle.messages.specs.declared.wire.key.Key.{Key}
-use Rattle.messages.specs.declared.wire.key.Key.TheVariants.{Kind as KindKey, Tn, A, B, Sv, Rt, Cs}
+use Rattle.messages.specs.declared.wire.key.Key.TheVariants.{Kind as KindKey, Tn, A, Sv, Cs}
 use Rattle.messages.specs.declared.wire.unread.Unread.{Unread}
 use Rattle.messages.specs.declared.wire.unread.Unread.TheVariants.{NotLawful, NotALine}
 use Rattle.messages.specs.Parts.{reading_of}

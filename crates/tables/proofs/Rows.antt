@@ -1,5 +1,5 @@
 -- A call that is not denied passes every row.
-use Rattle.std.proofs.Common.{◌≡◌, ℕ, Bool, true, false, List, [], ◌∷◌, ◌++◌, Some, None, Option, sym, refl, arith}
+use Rattle.std.proofs.Common.{◌≡◌, Bool, true, false, List, [], ◌∷◌, ◌++◌, Some, None, Option, sym, refl}
 use Rattle.answers.specs.declared.denial.Denial.{Denial}
 use Rattle.answers.specs.Rows.{row, upper}
 use Rattle.tables.proofs.Tables.{never_some}

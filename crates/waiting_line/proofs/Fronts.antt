@@ -3,7 +3,6 @@ use Rattle.std.proofs.Common.{◌≡◌, ℕ, suc, ◌+◌, ◌-◌, ◌<◌, �
 use borrow.Rule.Slice.PartMut.{put_mid}
 use Rattle.std.specs.List.{between, remove}
 use Rattle.std.proofs.lemmas.List.{length-take, set-append_left, take_all, take_at, take-take, take-append-drop, length-append, length-drop, append_assoc, append-nil, drop-drop, drop_all}
-use Rattle.std.proofs.lemmas.List.Edits.{length-remove}
 use Rattle.std.proofs.lemmas.Slice.{between_is}
 use Rattle.std.proofs.lemmas.Bool.{cases_lt}
 use Rattle.waiting_line.specs.Gaps.{over, closed}

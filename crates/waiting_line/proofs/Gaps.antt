@@ -1,7 +1,7 @@
 -- A gap that is closed place by place, and what is moved in all.
 use Rattle.std.proofs.Common.{◌≡◌, ℕ, ◌+◌, ◌-◌, ◌<◌, ◌≤◌, min, List, [], ◌∷◌, ◌++◌, length, get_or, take, drop, set, sym, refl, ap, ◌∙◌, ⊎_elim, arith}
 use Rattle.std.specs.List.{between}
-use Rattle.std.proofs.lemmas.List.{length-take, length-drop, length-append, take_all, take_more, drop_more, drop_all, get_or-drop, get_or-append_right, get_or_default, take-append-drop, append_assoc, append-nil, set_at, drop-drop}
+use Rattle.std.proofs.lemmas.List.{length-take, length-drop, length-append, take_all, take_more, drop_more, get_or-drop, get_or-append_right, take-append-drop, append_assoc, append-nil, set_at}
 use Rattle.std.proofs.lemmas.Bool.{cases_lt}
 use Rattle.waiting_line.specs.Gaps.{over, closed}
 use Rattle.waiting_line.proofs.Fronts.{rest_held}

@@ -1,4 +1,4 @@
-use Rattle.std.proofs.Common.{sym, ap, ◌∙◌}
+use Rattle.std.proofs.Common.{sym, ap}
 use Rattle.waiting_line.specs.Lines.{items}
 use Rattle.channels.specs.Meaning.{first}
 use Rattle.channels.specs.Backplanes.{values_of}

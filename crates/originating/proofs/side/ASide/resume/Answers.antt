@@ -35,11 +35,11 @@ loop-place-preserved g c =
           turn_woken entry _ _ i here mid _ _ turn _ all shown (w.if-is_resumable.ensures (a_of entry).records noted) _ _ _
           (ap a_of w.self-is ∙ with_records_lem (a_of mid) _ _ _ w.replace.ensures.capacity w.replace.ensures.items)
           (ap a_memory w.self-is ∙ w.replace.ensures.memory)
-          (ap ch.capacity w.to-b-is ∙ w.post.ensures.capacity)
-          (ap ch.waiting w.to-b-is ∙ w.post.ensures.waiting ∙ ap (posted (ch.capacity to_b) (ch.waiting to_b)) w.plain.ensures)
+          (ap ch.capacity w.to_b-is ∙ w.post.ensures.capacity)
+          (ap ch.waiting w.to_b-is ∙ w.post.ensures.waiting ∙ ap (posted (ch.capacity to_b) (ch.waiting to_b)) w.plain.ensures)
       | else-is_resumable w ↦
           subst (λ self. Turn entry (ch.capacity start) (ch.waiting start) (i + 1) self (ch.capacity c.if-is_resumable.to_b) (ch.waiting c.if-is_resumable.to_b)) (sym w.self-is)
-          (subst (λ b. Turn entry (ch.capacity start) (ch.waiting start) (i + 1) mid (ch.capacity b) (ch.waiting b)) (sym w.to-b-is)
+          (subst (λ b. Turn entry (ch.capacity start) (ch.waiting start) (i + 1) mid (ch.capacity b) (ch.waiting b)) (sym w.to_b-is)
           (turn_asleep entry _ _ i here mid _ _ turn _ all shown (w.if-is_resumable.ensures (a_of entry).records noted)))
     ]
 

@@ -1,4 +1,4 @@
-use Rattle.std.proofs.Common.{◌≡◌, ◌-◌, ◌≤◌, length, take, drop, ap, ◌∙◌, arith}
+use Rattle.std.proofs.Common.{length, take, drop, ap, ◌∙◌, arith}
 use Rattle.std.proofs.lemmas.List.{length-drop, length-take, take_at}
 use Rattle.waiting_line.proofs.Fronts.{over_long, without_first}
 use Rattle.waiting_line.proofs.line.WaitingLine.remove_first.Goals as goal

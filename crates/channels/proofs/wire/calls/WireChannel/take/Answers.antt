@@ -1,4 +1,4 @@
-use Rattle.std.proofs.Common.{◌≡◌, ◌/◌, length, drop, sym, ap, ◌∙◌, arith}
+use Rattle.std.proofs.Common.{◌/◌, length, drop, sym, ap, ◌∙◌, arith}
 use Rattle.std.specs.Option.{ok_or}
 use Rattle.answers.specs.declared.denial.Denial.TheVariants.{NoneThere}
 use Rattle.waiting_line.specs.Gaps.{over}
