@@ -1,14 +1,14 @@
 -- One change of a side: of its records, by place as by first match, or of its lines.
-use Rattle.std.proofs.Common.{◌≡◌, ℕ, suc, ◌+◌, ◌<◌, ◌≤◌, Bool, true, false, cond, eqb, leb, List, [], ◌∷◌, ◌++◌, map, length, get_or, take, drop, set, Some, None, sym, refl, ap, ◌∙◌, arith, MutBor}
+use Rattle.std.proofs.Common.{◌≡◌, ℕ, suc, ◌+◌, Bool, true, false, cond, eqb, leb, List, [], ◌∷◌, ◌++◌, map, length, take, drop, set, Some, None, sym, refl, ap, ◌∙◌, arith, MutBor}
 use Rattle.std.specs.List.{remove}
-use Rattle.std.proofs.lemmas.List.{length-set, length-map, length_push, set_split, set_past, append_assoc}
+use Rattle.std.proofs.lemmas.List.{length-set, length-map, length_push, set_split, append_assoc}
 use Rattle.std.proofs.lemmas.Bool.{cond-false, leb-false}
 use Rattle.waiting_line.specs.declared.line.WaitingLine.{WaitingLine}
 use Rattle.waiting_line.specs.Gaps.{over}
 use Rattle.waiting_line.specs.Lines.{memory, items, spare, capacity, put_left, full}
 use Rattle.waiting_line.specs.Searches.{first_from, first_where}
 use Rattle.waiting_line.proofs.Fronts.{front_held, rest_held, front_over}
-use Rattle.tables.specs.Tables.{Change, same, added, became, removed, changed, without, replaced}
+use Rattle.tables.specs.Tables.{Change, added, became, removed, changed, without, replaced}
 use Rattle.tables.proofs.Tables.{never_some}
 use Rattle.tables.proofs.Places.{placed}
 use Rattle.b_side.specs.declared.record.BRecord.{BRecord}

@@ -1,13 +1,12 @@
 -- How a call ends: denied with all as it was, or accepted, the guards last.
-use Rattle.std.proofs.Common.{◌≡◌, ℕ, Bool, true, false, not, ◌||◌, List, [], ◌∷◌, ◌++◌, length, set, Some, None, Ok, Err, Option, Result, sym, refl, ap, ◌∙◌, subst}
+use Rattle.std.proofs.Common.{◌≡◌, ℕ, Bool, true, false, ◌||◌, List, [], ◌∷◌, ◌++◌, length, Some, None, Ok, Err, Option, Result, sym, refl, ap, ◌∙◌, subst}
 use Rattle.std.proofs.lemmas.Bool.{not-false, or_parts}
-use Rattle.std.proofs.lemmas.List.{length-set}
 use Rattle.answers.specs.declared.answer.Answer.{Answer}
 use Rattle.answers.specs.declared.cause.Cause.TheVariants.{Completed}
 use Rattle.answers.specs.declared.denial.Denial.{Denial}
 use Rattle.answers.specs.declared.denial.Denial.TheVariants.{OutOfRange}
 use Rattle.answers.specs.Rows.{row, upper}
-use Rattle.tables.specs.Tables.{Change, same}
+use Rattle.tables.specs.Tables.{same}
 use Rattle.tables.proofs.Rows.{passes}
 use Rattle.tables.proofs.Tables.{never_some}
 use Rattle.waiting_line.specs.Gaps.{over}
@@ -18,9 +17,8 @@ use Rattle.b_side.specs.declared.line.LineFacts.{LineFacts}
 use Rattle.b_side.specs.Ranges.{b_in_range}
 use Rattle.b_side.specs.Rules.{BModel, BEffect, BDone, b_fit, unfit_b, with_tables, does, accept, finishes, completing, line_set}
 use Rattle.destination.specs.declared.side.BSide.{BSide}
-use Rattle.destination.specs.Guards.{Told}
 use Rattle.destination.specs.Sides.{b_of, record_memory, Kept}
-use Rattle.destination.specs.Calls.{BEnd, b_call, Came, Did, Lined, Acted, effected, settled, denied}
+use Rattle.destination.specs.Calls.{BEnd, b_call, Came, Did, Lined, Acted, effected, settled}
 use Rattle.destination.proofs.Changes.{kept_same}
 
 pub refused : (s : BSide) (capacity : ℕ) (waiting : List Values) (refusal : Option Denial) (done : BDone) (r : Result Answer Denial) (d : Denial) → Some d ≡ refusal → r ≡ Err d → Came (b_call (b_of s) capacity waiting refusal done) r s s

@@ -1,6 +1,6 @@
 -- What a message asks of the record of its transaction, and what each such step does.
 -- The rules say it by the kind of the message; that both are one is proved.
-use Rattle.std.specs.Prelude.{Bool, true, false, cond, [], ◌∷◌}
+use Rattle.std.specs.Prelude.{Bool, true, false, cond, []}
 use Rattle.answers.specs.declared.answer.Answer.TheVariants.{Suspended as suspended, Resumed as resumed}
 use Rattle.answers.specs.Numbers.{cause_of}
 use Rattle.tables.specs.Tables.{became}

@@ -1,5 +1,5 @@
 -- A call as a whole: denied, or accepted with its own effect and then the resumption.
-use Rattle.std.proofs.Common.{◌≡◌, ℕ, Bool, List, map, length, Some, None, Ok, Err, Option, Result, sym, refl, ap, ◌∙◌, subst, arith}
+use Rattle.std.proofs.Common.{◌≡◌, ℕ, Bool, List, length, Some, None, Ok, Err, Option, Result, sym, ap, ◌∙◌, subst, arith}
 use Rattle.std.proofs.lemmas.List.{length-map}
 use Rattle.answers.specs.declared.answer.Answer.{Answer}
 use Rattle.answers.specs.declared.denial.Denial.{Denial}

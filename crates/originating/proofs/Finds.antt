@@ -1,5 +1,5 @@
 -- What a search by place found is what the rules find by first match. The list that was searched is given apart from the records.
-use Rattle.std.proofs.Common.{◌≡◌, ℕ, suc, ◌+◌, Bool, true, false, cond, ◌||◌, eqb, List, [], ◌∷◌, get_or, set, is_some, Some, None, sym, refl, ap, ◌∙◌, arith}
+use Rattle.std.proofs.Common.{◌≡◌, ℕ, suc, ◌+◌, Bool, true, false, cond, eqb, List, [], ◌∷◌, get_or, set, is_some, Some, None, sym, refl, ap, ◌∙◌, arith}
 use Rattle.std.specs.List.{remove}
 use Rattle.tables.specs.Tables.{found, first_by, without, replaced}
 use Rattle.tables.proofs.Tables.{never_some}

@@ -1,5 +1,5 @@
 -- The record places: what stands past the last record stays, through one change of the records and through two.
-use Rattle.std.proofs.Common.{◌≡◌, ℕ, suc, ◌+◌, ◌-◌, ◌<◌, ◌≤◌, List, [], ◌∷◌, ◌++◌, length, take, drop, set, sym, refl, ap, ◌∙◌, arith}
+use Rattle.std.proofs.Common.{◌≡◌, suc, ◌+◌, ◌-◌, ◌<◌, ◌≤◌, List, [], ◌∷◌, ◌++◌, length, drop, set, sym, refl, ap, ◌∙◌, arith}
 use Rattle.std.proofs.lemmas.List.{drop-drop, drop_at, set_split, append_assoc, length_push}
 use Rattle.waiting_line.specs.declared.line.WaitingLine.{WaitingLine}
 use Rattle.waiting_line.specs.Gaps.{over}

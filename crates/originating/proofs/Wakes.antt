@@ -1,5 +1,5 @@
 -- One turn of the resumption, and its end.
-use Rattle.std.proofs.Common.{◌≡◌, ℕ, ◌+◌, ◌<◌, ◌≤◌, min, Bool, true, false, cond, List, [], ◌∷◌, ◌++◌, map, length, get_or, take, drop, set, filter, sym, refl, ap, ◌∙◌, arith}
+use Rattle.std.proofs.Common.{◌≡◌, ℕ, ◌+◌, ◌<◌, ◌≤◌, Bool, true, false, cond, List, [], ◌∷◌, ◌++◌, map, length, get_or, take, drop, set, filter, sym, refl, ap, ◌∙◌, arith}
 use Rattle.std.proofs.lemmas.List.{length-map, length-take, length-drop, length-append, length-set, drop_more, get_or_at, get_or_default, set-get_or, map-append, take_all, drop_all, append-nil}
 use Rattle.std.proofs.lemmas.List.Edits.{map_over_more}
 use Rattle.std.proofs.lemmas.List.Elements.{filter_more}
@@ -12,7 +12,7 @@ use Rattle.waiting_line.specs.Lines.{spare}
 use Rattle.channels.specs.Meaning.{posted, posts}
 use Rattle.a_side.specs.declared.record.AState.TheVariants.{Waiting}
 use Rattle.a_side.specs.declared.record.ARecord.{ARecord}
-use Rattle.a_side.specs.Rules.{AModel, with_records, becomes, resumable, resumed, settled, resumptions}
+use Rattle.a_side.specs.Rules.{AModel, with_records, becomes, resumable, resumed}
 use Rattle.originating.specs.declared.side.ASide.{ASide}
 use Rattle.originating.specs.Calls.{a_of, a_memory}
 use Rattle.originating.specs.Steps.{Resumed}

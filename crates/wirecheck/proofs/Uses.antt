@@ -1,5 +1,5 @@
 -- What a kind uses, by the arm that says it.
-use Rattle.std.proofs.Common.{◌≡◌, ℕ, ◌⊎◌, List, [], ◌∷◌, ◌++◌, codes, sym, refl, ap, ◌∙◌, inl, inr, ⊎_elim}
+use Rattle.std.proofs.Common.{◌≡◌, ℕ, ◌⊎◌, List, [], codes, sym, refl, ap, ◌∙◌, ⊎_elim}
 use Rattle.drafts.specs.Drafts.{added, added_all}
 use Rattle.messages.specs.declared.kind.Kind.{Kind}
 use Rattle.messages.specs.declared.kind.Kind.TheVariants.{Request, Suspend, Resume, Call, Cancel, Result, Error, RemoteUserFree, CallDone, CallBusy}

@@ -1,4 +1,3 @@
-use Rattle.std.proofs.Common.{sym}
 use Rattle.destination.proofs.Along.{over_here, over_later, over_none}
 use Rattle.destination.proofs.guards.first_over.Goals as goal
 

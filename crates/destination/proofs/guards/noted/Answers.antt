@@ -1,4 +1,4 @@
-use Rattle.std.proofs.Common.{◌≡◌, false, sym, refl, ap, ◌∙◌}
+use Rattle.std.proofs.Common.{false, sym, refl, ap, ◌∙◌}
 use Rattle.std.proofs.lemmas.List.{get_or-replicate, get_or_default, take_all}
 use Rattle.waiting_line.specs.Searches.{some}
 use Rattle.destination.specs.Guards.{stands_at}

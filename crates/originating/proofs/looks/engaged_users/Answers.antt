@@ -1,4 +1,4 @@
-use Rattle.std.proofs.Common.{◌≡◌, ◌+◌, false, ◌||◌, length, sym, refl, ap, ◌∙◌, subst, rules}
+use Rattle.std.proofs.Common.{◌+◌, false, ◌||◌, length, sym, ap, ◌∙◌, subst, rules}
 use Rattle.std.proofs.lemmas.List.{get_or-replicate, length-replicate, length-set}
 use Rattle.waiting_line.specs.Searches.{some}
 use Rattle.originating.specs.Words.{engages}

@@ -1,4 +1,4 @@
-use Rattle.std.proofs.Common.{◌≡◌, [], refl, ap, ◌∙◌}
+use Rattle.std.proofs.Common.{[], refl, ap, ◌∙◌}
 use Rattle.drafts.specs.Drafts.{written, added}
 use Rattle.wirecheck.specs.Reports.{retention, cause, request}
 use Rattle.wirecheck.proofs.Uses.{uses_request, uses_retention, uses_cause, uses_none, said_all}

@@ -1,6 +1,6 @@
-use Rattle.std.proofs.Common.{◌≡◌, ℕ, List, ◌∷◌, codes, sym, ap, ◌∙◌}
+use Rattle.std.proofs.Common.{◌≡◌, ℕ, List, codes, sym, ap, ◌∙◌}
 use Rattle.answers.specs.Numbers.{denial_number}
-use Rattle.drafts.specs.Drafts.{written, added, added_all}
+use Rattle.drafts.specs.Drafts.{added, added_all}
 use Rattle.messages.specs.declared.wire.unread.Unread.{Unread}
 use Rattle.messages.specs.declared.wire.unread.Unread.TheVariants.{NotLawful}
 use Rattle.messages.specs.Wire.{unread_denial}

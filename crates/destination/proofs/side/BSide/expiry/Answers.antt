@@ -1,6 +1,6 @@
-use Rattle.std.proofs.Common.{◌≡◌, List, length, sym, refl, ap, ◌∙◌, rules}
+use Rattle.std.proofs.Common.{List, length, refl, ap, rules}
 use Rattle.b_side.specs.declared.line.LineFacts.{LineFacts}
-use Rattle.b_side.specs.Rules.{accept, b_expiring, b_expiry_refusal}
+use Rattle.b_side.specs.Rules.{b_expiring, b_expiry_refusal}
 use Rattle.destination.specs.Sides.{b_of}
 use Rattle.destination.specs.Dues.{expiring_by}
 use Rattle.destination.proofs.Dues.{expiring_due, due_lines}

@@ -1,4 +1,4 @@
-use Rattle.std.proofs.Common.{◌≡◌, get_or, set, sym, refl, ap}
+use Rattle.std.proofs.Common.{get_or, set, sym, ap}
 use Rattle.std.proofs.lemmas.List.{get_or_default, set_past}
 use Rattle.b_side.specs.declared.line.LineFacts.{LineFacts}
 use Rattle.b_side.specs.Rules.{idle, with_forwarding}

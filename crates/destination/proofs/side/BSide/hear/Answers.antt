@@ -1,4 +1,4 @@
-use Rattle.std.proofs.Common.{refl, ap, ◌∙◌}
+use Rattle.std.proofs.Common.{ap, ◌∙◌}
 use Rattle.channels.specs.Meaning.{posts}
 use Rattle.b_side.specs.Rules.{BEffect}
 use Rattle.destination.specs.Sides.{b_of}

@@ -2,7 +2,7 @@ use Rattle.std.proofs.Common.{sym, ap, ◌∙◌}
 use Rattle.std.proofs.lemmas.List.{get_or_past}
 use Rattle.std.proofs.lemmas.Bool.{le-ltb}
 use Rattle.b_side.specs.declared.line.LineFacts.{LineFacts}
-use Rattle.b_side.specs.Rules.{idle, turns_away}
+use Rattle.b_side.specs.Rules.{idle}
 use Rattle.destination.proofs.side.BSide.is_busy.Goals as goal
 
 pub returns-else-place-self : goal.returns-else-place-self

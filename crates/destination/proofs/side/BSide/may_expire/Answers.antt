@@ -1,4 +1,4 @@
-use Rattle.std.proofs.Common.{◌≡◌, not, [], is_some, sym, refl, ap, ◌∙◌}
+use Rattle.std.proofs.Common.{not, [], is_some, sym, refl, ap, ◌∙◌}
 use Rattle.std.proofs.lemmas.Bool.{not_from_true, not_from_false, eq-eqb, ne_eqb}
 use Rattle.answers.specs.declared.denial.Denial.TheVariants.{OutOfRange, NoneDue, NoFreePlace}
 use Rattle.b_side.specs.Rules.{any_due}

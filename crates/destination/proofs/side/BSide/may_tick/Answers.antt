@@ -1,7 +1,6 @@
-use Rattle.std.proofs.Common.{◌≡◌, false, [], ◌∷◌, is_some, sym, refl, ap, ◌∙◌}
+use Rattle.std.proofs.Common.{[], is_some, sym, refl, ap, ◌∙◌}
 use Rattle.std.proofs.lemmas.Bool.{not_from_true}
 use Rattle.answers.specs.declared.denial.Denial.TheVariants.{OutOfRange, TimerDue}
-use Rattle.answers.specs.Rows.{row}
 use Rattle.b_side.specs.Rules.{unfit_b, any_due, b_fit}
 use Rattle.destination.specs.Sides.{b_of}
 use Rattle.destination.proofs.Dues.{due_any}

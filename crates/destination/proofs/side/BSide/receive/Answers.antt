@@ -1,4 +1,3 @@
-use Rattle.std.proofs.Common.{length}
 use Rattle.b_side.specs.Rules.{b_receiving}
 use Rattle.destination.specs.Sides.{b_of}
 use Rattle.destination.proofs.Ends.{fit_after, same_lines, did_accepted}

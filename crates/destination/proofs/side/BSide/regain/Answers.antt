@@ -1,4 +1,4 @@
-use Rattle.std.proofs.Common.{[], sym, ◌∙◌}
+use Rattle.std.proofs.Common.{[]}
 use Rattle.destination.specs.Sides.{b_of}
 use Rattle.destination.proofs.Ends.{idle_acted, acted_as}
 use Rattle.destination.proofs.Receives.{returned_none, returned_at}

@@ -1,4 +1,4 @@
-use Rattle.std.proofs.Common.{◌≡◌, [], ◌∷◌, sym, refl, ap, ◌∙◌}
+use Rattle.std.proofs.Common.{ap, ◌∙◌}
 use Rattle.messages.specs.declared.kind.Kind.TheVariants.{Error}
 use Rattle.messages.specs.Sent.{numbered}
 use Rattle.channels.specs.Meaning.{posted, posts}

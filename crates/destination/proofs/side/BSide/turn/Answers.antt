@@ -1,6 +1,6 @@
-use Rattle.std.proofs.Common.{◌≡◌, length, sym, refl, ◌∙◌, rules}
+use Rattle.std.proofs.Common.{refl, rules}
 use Rattle.std.proofs.lemmas.List.{length-set}
-use Rattle.b_side.specs.Rules.{line_becomes, line_set}
+use Rattle.b_side.specs.Rules.{line_becomes}
 use Rattle.destination.specs.Sides.{b_of}
 use Rattle.destination.proofs.Ends.{refused, accepted, fit, fit_after, lined_acted, same_lines}
 use Rattle.destination.proofs.side.BSide.turn.Goals as goal

@@ -1,4 +1,4 @@
-use Rattle.std.proofs.Common.{◌≡◌, sym, refl, ap, ◌∙◌, rules}
+use Rattle.std.proofs.Common.{sym, refl, ap, ◌∙◌, rules}
 use Rattle.waiting_line.specs.Gaps.{over}
 use Rattle.a_side.specs.Rules.{with_records}
 use Rattle.originating.specs.Calls.{a_of, a_memory}

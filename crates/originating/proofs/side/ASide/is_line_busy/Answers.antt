@@ -1,4 +1,4 @@
-use Rattle.std.proofs.Common.{◌≤◌, false, length, sym, arith, rules}
+use Rattle.std.proofs.Common.{◌≤◌, false, length, sym, rules}
 use Rattle.std.proofs.lemmas.List.{get_or_past}
 use Rattle.originating.proofs.side.ASide.is_line_busy.Goals as goal
 

@@ -1,4 +1,4 @@
-use Rattle.std.proofs.Common.{[], Err, sym, refl, ap, ◌∙◌}
+use Rattle.std.proofs.Common.{[], Err, refl, ap, ◌∙◌}
 use Rattle.std.proofs.lemmas.Result.{err_from_is_err_and}
 use Rattle.a_side.specs.Rules.{line_busy_refusal, line_busied}
 use Rattle.originating.specs.Calls.{a_of}

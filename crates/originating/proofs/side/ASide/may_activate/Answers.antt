@@ -1,5 +1,4 @@
 use Rattle.std.proofs.Common.{◌≡◌, true, false, leb, length, sym, rules}
-use Rattle.std.proofs.lemmas.Bool.{lt-leb}
 use Rattle.a_side.specs.Rules.{user_full}
 use Rattle.originating.specs.Calls.{a_of}
 use Rattle.originating.proofs.side.ASide.may_activate.Goals as goal

@@ -1,4 +1,4 @@
-use Rattle.std.proofs.Common.{refl, ap, ◌∙◌}
+use Rattle.std.proofs.Common.{ap, ◌∙◌}
 use Rattle.a_side.specs.Rules.{a_receiving, a_receiving_at}
 use Rattle.originating.specs.Calls.{a_of}
 use Rattle.originating.proofs.Accepted.{did_by}

@@ -1,4 +1,4 @@
-use Rattle.std.proofs.Common.{◌≡◌, sym, refl, ap, ◌∙◌, rules}
+use Rattle.std.proofs.Common.{sym, ap, ◌∙◌, rules}
 use Rattle.std.proofs.lemmas.Bool.{cond-false, leb-false}
 use Rattle.waiting_line.specs.Gaps.{over}
 use Rattle.originating.specs.Calls.{a_memory}

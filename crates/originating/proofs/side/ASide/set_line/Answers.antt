@@ -1,4 +1,4 @@
-use Rattle.std.proofs.Common.{◌≡◌, ◌≤◌, length, sym, refl, ap, rules}
+use Rattle.std.proofs.Common.{◌≤◌, length, sym, refl, ap, rules}
 use Rattle.std.proofs.lemmas.List.{set_past}
 use Rattle.originating.specs.Calls.{a_of}
 use Rattle.originating.specs.Steps.{with_busy}
