@@ -1,5 +1,5 @@
 -- What was written is read back, and what is read was written: a text, a letter, a number, a field, the line end.
--- Each `-to` goes from what stands at a place to its reading and the place after it, each `-from` the other way.
+-- Each `_to` goes from what stands at a place to its reading and the place after it, each `_from` the other way.
 use Rattle.std.proofs.Common.{◌≡◌, ℕ, suc, ◌+◌, ◌-◌, ◌^◌, ◌<◌, ◌≤◌, false, List, [], ◌∷◌, ◌++◌, length, get_or, take, drop, Ok, Err, decimal, Result, sym, refl, ap, ◌∙◌, add-zero, arith}
 use Rattle.std.specs.Char.{is_ascii_digit}
 use Rattle.std.proofs.lemmas.List.{drop_all, drop_at, drop-drop, drop_more, get_or-drop, get_or_past, length-drop, take_at}

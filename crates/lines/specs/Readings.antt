@@ -35,7 +35,7 @@ number_at key most at line = on_ok (numbered at line) (on_err line_fault (keyed 
 unfoldable pub field_at : {K : Type 0} → K → List ℕ → ℕ → ℕ → List ℕ → Result (Seen × ℕ) (LineFault K)
 field_at key text most at line = and_then (text_at key text at line) (λ after. number_at key most after line)
 
--- the newline stands at `at`, and nothing after it (past the end `get_or` gives 0, which is no newline)
+-- the newline stands at `at`, and nothing after it (past the end `slice_index` gives 0, which is no newline)
 unfoldable pub end_at : {K : Type 0} → K → ℕ → List ℕ → Result (Unit {0}) (LineFault K)
 end_at key at line =
     cond (slice_index line at == 10)

@@ -1,5 +1,5 @@
 -- Results that follow one another: each step of a reading goes on from the one before, and the first fault ends it.
--- `and_then` says what `?` does; `onOk` and `onErr` change what is answered, or what is at fault.
+-- `and_then` says what `?` does; `on_ok` and `on_err` change what is answered, or what is at fault.
 use Rattle.std.specs.Prelude.{Ok, Err, Result}
 
 abbrev pub and_then : {A B E : Type 0} → Result A E → (A → Result B E) → Result B E

@@ -1,5 +1,5 @@
 -- What a waiting line holds, and what its calls answer and leave, over the list of its elements and the whole of its memory.
--- Past the end of a list `set` and `removed` change nothing, so that a denied call leaves all as it was.
+-- Past the end of a list `slice_set` and `remove` change nothing, so that a denied call leaves all as it was.
 use Rattle.std.specs.Prelude.{ℕ, ◌+◌, Bool, cond, List, [], ◌∷◌, ◌++◌, length, take, drop, Ok, Err, Result, nat_le, nat_lt}
 use Rattle.std.specs.Option.{ok_or}
 use Rattle.std.specs.List.{slice_get}
