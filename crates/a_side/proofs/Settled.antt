@@ -1,6 +1,6 @@
 -- Between calls no Suspended record of a user who is not CCBS-busy stands: the resumption leaves none, and a tick or a busy line makes none.
 use Rattle.std.proofs.Common.{◌≡◌, ℕ, zero, suc, Bool, true, false, cond, not, ◌&&◌, ◌||◌, eqb, List, [], ◌∷◌, map, get_or, set, sym, refl, ap, ◌∙◌}
-use Rattle.std.proofs.lemmas.Bool.{and_parts, or_parts, or_from, or_right}
+use Rattle.std.proofs.lemmas.Bool.{and_parts, and_right, or_parts, or_from, or_right}
 use Rattle.tables.proofs.Tables.{never}
 use Rattle.waiting_line.specs.Searches.{some}
 use Rattle.a_side.specs.declared.record.AState.{AState}
@@ -21,16 +21,12 @@ suspended_free Recalled h = never (sym h)
 suspended_free Suspended h = refl
 suspended_free Calling h = never (sym h)
 
-pub and_false : (b : Bool) → (b && false) ≡ false
-and_false true = refl
-and_false false = refl
-
 -- the resumption leaves who is CCBS-busy
 pub engages_resumed : (s : AModel) (a : ℕ) (r : ARecord) → engages a (resumed s r) ≡ engages a r
 engages_resumed s a r = go (resumable s r) refl
   where
     go : (b : Bool) → resumable s r ≡ b → engages a (cond b (becomes Waiting r) r) ≡ engages a r
-    go true e = and_false (eqb r.user a) ∙ sym (ap (λ b. eqb r.user a && b) (suspended_free r.state (and_parts _ _ e).0) ∙ and_false (eqb r.user a))
+    go true e = and_right (eqb r.user a) false refl ∙ sym (and_right (eqb r.user a) _ (suspended_free r.state (and_parts _ _ e).0))
     go false e = refl
 
 pub some_map : {X : Type 0} (q p : X → Bool) (f : X → X) → ((x : X) → q (f x) ≡ p x) → (xs : List X) → some q (map f xs) ≡ some p xs

@@ -1,6 +1,6 @@
 -- Five places suffice: a call frees at most its own user, and who sends a message of its own has one record less or stays busy.
 use Rattle.std.proofs.Common.{◌≡◌, ℕ, zero, suc, ◌+◌, ◌≤◌, Bool, true, false, cond, not, ◌&&◌, ◌||◌, eqb, ltb, leb, ◌⊎◌, List, [], ◌∷◌, ◌++◌, map, length, get_or, set, Some, None, Option, sym, refl, ap, ◌∙◌, subst, inl, inr, arith, length-append}
-use Rattle.std.proofs.lemmas.Bool.{eqb-true, eqb-false, eq-eqb, ne_eqb, leb-true, leb-false, and_parts, and_from, and_left, or_left, or_right, or_parts, not-false, not_from_true, not_from_false}
+use Rattle.std.proofs.lemmas.Bool.{cond_both, eqb-true, eqb-false, eq-eqb, ne_eqb, leb-true, leb-false, and_parts, and_from, and_left, and_right, or_left, or_right, or_parts, not-false, not_from_true, not_from_false}
 use Rattle.answers.specs.declared.denial.Denial.{Denial}
 use Rattle.answers.specs.declared.denial.Denial.TheVariants.{OutOfRange, NoSuchParty, AboveThree, NotStanding, Identical, UserFull, NoRecordPlace, NoNumberLeft, NoFreePlace}
 use Rattle.answers.specs.declared.cause.Cause.TheVariants.{T3Over, T4Over, Withdrawn, ShortTermDenial, LongTermDenial, Completed, BusyAgain, CallReturned}
@@ -16,13 +16,13 @@ use Rattle.tables.proofs.Counting.{times_none, times_push, some_push, times_map,
 use Rattle.messages.specs.declared.kind.Kind.{Kind}
 use Rattle.messages.specs.declared.kind.Kind.TheVariants.{Request as Q, Suspend as S, Resume as M, Call as C, Cancel as X, Result as R, Error as E, RemoteUserFree as F, CallDone as D, CallBusy as B}
 use Rattle.messages.specs.declared.values.Values.{Values}
-use Rattle.messages.specs.Sent.{plain, cancelling}
+use Rattle.messages.specs.Sent.{plain, cancelling, same_kind}
 use Rattle.a_side.specs.declared.record.AState.{AState}
 use Rattle.a_side.specs.declared.record.AState.TheVariants.{Requested, Waiting, Recalled, Suspended, Calling}
 use Rattle.a_side.specs.declared.record.ARecord.{ARecord}
-use Rattle.a_side.specs.Rules.{AModel, AEffect, a_tn, a_due, due2, due3, does, carried_out, resumed, resumable, resumptions, standing, stands_for, accept, requested_by, activating, withdrawing, answering, answering_at, answering_one, line_freeing, a_aged, a_expiring, a_expiring_at, a_receiving, a_receiving_at, a_returning, a_returning_at, on_record, on_stray, on_result, on_free, on_free_waiting, on_busy, on_kept, on_returned, when_accepted, when_recalled, when_answered, becomes, is_suspended, recalled_or_calling, ccbs_busy, line_busy, with_line, unfit_a, a_fit, no_such_user, fewer_than_five, identical, activate_refusal, withdraw_refusal, answer_refusal}
+use Rattle.a_side.specs.Rules.{AModel, AEffect, a_tn, a_due, due2, due3, is, does, carried_out, resumed, resumable, resumptions, standing, stands_for, accept, requested_by, activating, withdrawing, answering, answering_at, answering_one, line_freeing, a_aged, a_expiring, a_expiring_at, a_expiring_one, a_receiving, a_receiving_at, a_returning, a_returning_at, on_record, on_stray, on_result, on_free, on_free_waiting, on_busy, on_kept, on_returned, when_accepted, when_recalled, when_answered, becomes, is_suspended, recalled_or_calling, ccbs_busy, line_busy, with_line, unfit_a, a_fit, no_such_user, fewer_than_five, identical, activate_refusal, withdraw_refusal, answer_refusal}
 use Rattle.a_side.specs.Tidy.{of_user, Rises, Tidy, Keeps, Five, FiveSuffice}
-use Rattle.a_side.proofs.Settled.{engages, and_false, settled_none, ticked_none, busied_none}
+use Rattle.a_side.proofs.Settled.{engages, settled_none, ticked_none, busied_none}
 
 -- Rising numbers
 
@@ -78,19 +78,11 @@ pub record Deed (s : AModel) (e : AEffect) : Type 0 where
   pub few : (u : ℕ) → times (of_user u) (changed a_tn e.change s.records) ≤ 5
   pub sent : length e.sent + times (resumable (carried_out s e)) (changed a_tn e.change s.records) ≤ 5
 
-resumed_tn : (s : AModel) (r : ARecord) → (resumed s r).tn ≡ r.tn
-resumed_tn s r = go (resumable s r)
-  where
-    go : (b : Bool) → (cond b (becomes Waiting r) r).tn ≡ r.tn
-    go true = refl
-    go false = refl
+pub resumed_tn : (s : AModel) (r : ARecord) → (resumed s r).tn ≡ r.tn
+resumed_tn s r = cond_both (resumable s r) (becomes Waiting r) r (λ q. q.tn ≡ r.tn) (λ _. refl) (λ _. refl)
 
 resumed_user : (s : AModel) (u : ℕ) (r : ARecord) → of_user u (resumed s r) ≡ of_user u r
-resumed_user s u r = go (resumable s r)
-  where
-    go : (b : Bool) → of_user u (cond b (becomes Waiting r) r) ≡ of_user u r
-    go true = refl
-    go false = refl
+resumed_user s u r = cond_both (resumable s r) (becomes Waiting r) r (λ q. of_user u q ≡ of_user u r) (λ _. refl) (λ _. refl)
 
 pub kept_by_deed : (s : AModel) (e : AEffect) → Deed s e → Keeps (accept s e)
 kept_by_deed s e d =
@@ -215,7 +207,7 @@ deed_asked : (s : AModel) (a b sv : ℕ) → suc (times (of_user a) s.records) �
 deed_asked s a b sv h t =
     let r : ARecord = requested_by s a b sv in
     let s' : AModel = carried_out s (activating s a b sv) in
-    let same : (v : ℕ) → ccbs_busy s' v ≡ ccbs_busy s v = λ v. ap (λ d. line_busy s v || d) (some_push (engages v) s.records r (and_false (eqb a v))) in
+    let same : (v : ℕ) → ccbs_busy s' v ≡ ccbs_busy s v = λ v. ap (λ d. line_busy s v || d) (some_push (engages v) s.records r (and_right (eqb a v) false refl)) in
     let less : times (resumable s') s.records ≤ times (resumable s) s.records = times_less (resumable s') (resumable s) (λ y e. ap (λ d. is_suspended y.state && not d) (sym (same y.user)) ∙ e) s.records in
     let pushed : times (resumable s') (s.records ++ r ∷ []) ≡ times (resumable s') s.records = times_push (resumable s') s.records r in
     record {
@@ -278,14 +270,13 @@ module _ (s : AModel) (t : Tidy s) where
   expires : Keeps (accept s (a_expiring s))
   expires = kept_by_deed s (a_expiring s) (go (first_by a_due s.records) refl)
     where
-      one : (r : ARecord) → found a_tn r.tn s.records ≡ Some r → (b d : Bool) → Deed s (cond b (does s (ended r.tn ShortTermDenial) (removed r.tn) []) (cond d (does s (ended r.tn T3Over) (removed r.tn) (cancelling r.tn 1 ∷ [])) (does s (ended r.tn T4Over) (removed r.tn) (cancelling r.tn 2 ∷ []))))
-      one r e true d = ends r.tn r e (ended r.tn ShortTermDenial) [] (omega arith)
-      one r e false true = ends r.tn r e (ended r.tn T3Over) (cancelling r.tn 1 ∷ []) (omega arith)
-      one r e false false = ends r.tn r e (ended r.tn T4Over) (cancelling r.tn 2 ∷ []) (omega arith)
+      one : (r : ARecord) → found a_tn r.tn s.records ≡ Some r → Deed s (a_expiring_one s r)
+      one r e = cond_both (due2 r) _ _ (Deed s) (λ _. ends r.tn r e (ended r.tn ShortTermDenial) [] (omega arith))
+          (λ _. cond_both (due3 r) _ _ (Deed s) (λ _. ends r.tn r e (ended r.tn T3Over) (cancelling r.tn 1 ∷ []) (omega arith)) (λ _. ends r.tn r e (ended r.tn T4Over) (cancelling r.tn 2 ∷ []) (omega arith)))
 
       go : (o : Option ARecord) → first_by a_due s.records ≡ o → Deed s (a_expiring_at s o)
       go None e = deed_rest s done [] (omega arith) t
-      go (Some r) e = one r (first_found a_due 0 s.records s.next r t.rising e) (due2 r) (due3 r)
+      go (Some r) e = one r (first_found a_due 0 s.records s.next r t.rising e)
 
   module _ (m : Values) where
     quiet : (k : ℕ) → Deed s (does s (nothing k) same [])
@@ -293,11 +284,7 @@ module _ (s : AModel) (t : Tidy s) where
 
     module _ (r : ARecord) (e : found a_tn r.tn s.records ≡ Some r) where
       results : (st : AState) → Deed s (on_result s r st)
-      results Requested = deed_became s (when_accepted s r) r e refl t (accepted r.tn)
-      results Waiting = quiet r.tn
-      results Recalled = quiet r.tn
-      results Suspended = quiet r.tn
-      results Calling = quiet r.tn
+      results st = cond_both (is Requested st) _ _ (Deed s) (λ _. deed_became s (when_accepted s r) r e refl t (accepted r.tn)) (λ _. quiet r.tn)
 
       freed : r.state ≡ Waiting → (b : Bool) → ccbs_busy s r.user ≡ b → Deed s (on_free_waiting s r b)
       freed w false f = deed_became s (when_recalled s r) r e refl t (recall r.tn)
@@ -313,11 +300,7 @@ module _ (s : AModel) (t : Tidy s) where
       frees Calling f = quiet r.tn
 
       keeps : (st : AState) → Deed s (on_kept s r st)
-      keeps Requested = quiet r.tn
-      keeps Waiting = quiet r.tn
-      keeps Recalled = quiet r.tn
-      keeps Suspended = quiet r.tn
-      keeps Calling = deed_became s (becomes Waiting r) r e refl t (kept r.tn)
+      keeps st = cond_both (is Calling st) _ _ (Deed s) (λ _. deed_became s (becomes Waiting r) r e refl t (kept r.tn)) (λ _. quiet r.tn)
 
       busy : (b : Bool) → Deed s (on_busy s r b)
       busy true = ends r.tn r e (ended r.tn BusyAgain) [] (omega arith)
@@ -336,28 +319,11 @@ module _ (s : AModel) (t : Tidy s) where
       heard B = busy (eqb m.retention 0)
 
       comes : (k : Kind) → Deed s (on_returned s r k)
-      comes Q = ends r.tn r e (ended r.tn LongTermDenial) [] (omega arith)
-      comes S = quiet r.tn
-      comes M = quiet r.tn
-      comes C = ends r.tn r e (ended r.tn CallReturned) (cancelling r.tn 0 ∷ []) (omega arith)
-      comes X = quiet r.tn
-      comes R = quiet r.tn
-      comes E = quiet r.tn
-      comes F = quiet r.tn
-      comes D = quiet r.tn
-      comes B = quiet r.tn
+      comes k = cond_both (same_kind k Q) _ _ (Deed s) (λ _. ends r.tn r e (ended r.tn LongTermDenial) [] (omega arith))
+          (λ _. cond_both (same_kind k C) _ _ (Deed s) (λ _. ends r.tn r e (ended r.tn CallReturned) (cancelling r.tn 0 ∷ []) (omega arith)) (λ _. quiet r.tn))
 
     strayed : (k : Kind) → Deed s (on_stray s m k)
-    strayed Q = quiet m.tn
-    strayed S = quiet m.tn
-    strayed M = quiet m.tn
-    strayed C = quiet m.tn
-    strayed X = quiet m.tn
-    strayed R = deed_rest s (stray m.tn) (cancelling m.tn 0 ∷ []) (omega arith) t
-    strayed E = quiet m.tn
-    strayed F = deed_rest s (stray m.tn) (cancelling m.tn 0 ∷ []) (omega arith) t
-    strayed D = quiet m.tn
-    strayed B = quiet m.tn
+    strayed k = cond_both (same_kind k R || same_kind k F) _ _ (Deed s) (λ _. deed_rest s (stray m.tn) (cancelling m.tn 0 ∷ []) (omega arith) t) (λ _. quiet m.tn)
 
     receives : (o : Option ARecord) → standing m.tn s ≡ o → Deed s (a_receiving_at s m o)
     receives None e = strayed m.kind

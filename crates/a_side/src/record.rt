@@ -4,7 +4,7 @@ use messages::Service;
 use waiting_line::{Record, Timed};
 
 /// What a request of the originating side is doing.
-#[derive(Clone, Copy, PartialEq, Eq)]
+#[derive(Clone, Copy, Debug, PartialEq, Eq)]
 pub enum AState {
     /// Sent, and not yet accepted by the destination side.
     Requested,
@@ -19,7 +19,7 @@ pub enum AState {
 }
 
 /// A request of a user. A stopped timer holds 0.
-#[derive(Clone, Copy)]
+#[derive(Clone, Copy, Debug, PartialEq, Eq)]
 pub struct ARecord {
     pub tn: u32,
     pub user: u8,

@@ -2,10 +2,10 @@ ghost use Rattle.std.specs.Prelude.{◌≡◌};
 ghost use Rattle.answers.specs.Rows.{examined};
 ghost use Rattle.a_side.specs.Ranges.{a_in_range};
 
-use answers::{Denial, is_within};
+use answers::{Denial, is_limited, is_placed, is_switched, is_timed};
 
 /// The settings of the originating side, as given.
-#[derive(Clone, Copy)]
+#[derive(Clone, Copy, Debug, PartialEq, Eq)]
 pub struct ASettings {
     /// Ticks that a request waits for its result.
     pub t2: u32,
@@ -25,17 +25,12 @@ pub struct ASettings {
 pub fn examine(settings: &ASettings, places: usize) -> Result<(), Denial>
     ensures { result ≡ examined (a_in_range settings.now places) }
 {
-    let fits = is_within(1, 60000, settings.t2)
-        && is_within(1, 60000, settings.t3)
-        && is_within(1, 60000, settings.t4)
-        && is_within(1, 5, settings.la)
-        && settings.ra <= 1
+    let fits = is_timed(settings.t2)
+        && is_timed(settings.t3)
+        && is_timed(settings.t4)
+        && is_limited(settings.la)
+        && is_switched(settings.ra)
         && settings.first >= 1
-        && 1 <= places
-        && places <= 320;
-    if fits {
-        Ok(())
-    } else {
-        Err(Denial::OutOfRange)
-    }
+        && is_placed(places);
+    fits.then_some(()).ok_or(Denial::OutOfRange)
 }

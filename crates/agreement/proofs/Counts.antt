@@ -1,9 +1,12 @@
 -- Counted: each side has one record for a transaction pending there; no number is given out, stored or ended twice.
-use Rattle.std.proofs.Common.{◌≡◌, ℕ, suc, ◌+◌, ◌≤◌, Bool, true, false, cond, List, [], ◌∷◌, ◌++◌, length, sym, refl, ap, arith, length-append}
+use Rattle.std.proofs.Common.{◌≡◌, ℕ, suc, ◌+◌, ◌≤◌, Bool, true, false, cond, List, [], ◌∷◌, ◌++◌, length, refl, arith, length-append}
 use Rattle.std.proofs.lemmas.Bool.{eqb-true}
 use Rattle.tables.specs.Tables.{times}
+use Rattle.tables.proofs.Tables.{never_both}
+use Rattle.tables.proofs.Counting.{times_push}
+use Rattle.messages.specs.Kinds.{letter_of}
 use Rattle.messages.specs.declared.kind.Kind.{Kind}
-use Rattle.messages.specs.declared.kind.Kind.TheVariants.{Request as Q, Suspend as S, Resume as M, Call as C, Cancel as X, Result as R, Error as E, RemoteUserFree as F, CallDone as D, CallBusy as B}
+use Rattle.messages.specs.declared.kind.Kind.TheVariants.{Request as Q, Cancel as X}
 use Rattle.messages.specs.declared.values.Values.{Values}
 use Rattle.agreement.specs.Laws.{one_if}
 use Rattle.agreement.proofs.Spots.{Spot}
@@ -22,16 +25,7 @@ pub record Counts (n : ℕ) (s : Spot) : Type 0 where
   pub asked : s.words.stored + times request s.tb ≤ s.words.given
 
 pub no_request : (k : Kind) → is_x k ≡ true → is_q k ≡ false
-no_request Q h = sym h
-no_request S h = refl
-no_request M h = refl
-no_request C h = refl
-no_request X h = refl
-no_request R h = refl
-no_request E h = refl
-no_request F h = refl
-no_request D h = refl
-no_request B h = refl
+no_request k h = never_both (letter_of k) (letter_of X) (letter_of Q) h refl
 
 times_one : (b : Bool) (n : ℕ) → cond b (suc n) n ≤ suc n
 times_one true n = omega arith
@@ -45,16 +39,10 @@ times_taken m ms = go (is_q m.kind)
     go false = omega arith
 
 pub times_added : (ms : List Values) (m : Values) → times request (ms ++ m ∷ []) ≤ suc (times request ms)
-times_added [] m = times_one (is_q m.kind) 0
-times_added (x ∷ ms) m = go (is_q x.kind) (times_added ms m)
-  where
-    go : (b : Bool) → times request (ms ++ m ∷ []) ≤ suc (times request ms) → cond b (suc (times request (ms ++ m ∷ []))) (times request (ms ++ m ∷ [])) ≤ suc (cond b (suc (times request ms)) (times request ms))
-    go true h = omega arith
-    go false h = h
+times_added ms m = omega (arith, times_push request ms m, times_one (is_q m.kind) (times request ms))
 
 pub times_kept : (ms : List Values) (m : Values) → is_q m.kind ≡ false → times request (ms ++ m ∷ []) ≡ times request ms
-times_kept [] m h = rw h
-times_kept (x ∷ ms) m h = ap (λ k. cond (is_q x.kind) (suc k) k) (times_kept ms m h)
+times_kept ms m h = rw h at (times_push request ms m)
 
 pub times_request : (m : Values) (ms : List Values) → is_q m.kind ≡ true → times request (m ∷ ms) ≡ suc (times request ms)
 times_request m ms h = rw h

@@ -1,5 +1,5 @@
 -- What a call leaves of every transaction's spot: of its own the step, of the resumed ones the resumption, of the others nothing.
-use Rattle.std.proofs.Common.{◌≡◌, ℕ, ◌≤◌, Bool, true, false, cond, eqb, List, [], ◌∷◌, ◌++◌, map, length, filter, sym, refl, ap, ◌∙◌, subst, arith}
+use Rattle.std.proofs.Common.{◌≡◌, ℕ, ◌≤◌, Bool, true, false, cond, eqb, List, [], ◌∷◌, ◌++◌, map, length, filter, Err, sym, refl, ap, ◌∙◌, subst, arith}
 use Rattle.std.proofs.lemmas.Bool.{and_parts}
 use Rattle.answers.specs.declared.answer.Answer.{Answer}
 use Rattle.answers.specs.declared.denial.Denial.{Denial}
@@ -12,10 +12,10 @@ use Rattle.a_side.specs.declared.record.AState.{AState}
 use Rattle.a_side.specs.declared.record.AState.TheVariants.{Requested, Waiting, Recalled, Suspended, Calling}
 use Rattle.a_side.specs.declared.record.ARecord.{ARecord}
 use Rattle.a_side.specs.Rules.{AModel, a_tn, resumable, resumed, becomes, runs2, is_suspended}
+use Rattle.a_side.proofs.Tidy.{resumed_tn}
 use Rattle.b_side.specs.declared.record.BRecord.{BRecord}
 use Rattle.b_side.specs.Rules.{b_tn}
 use Rattle.agreement.specs.declared.call.Call.{Call}
-use Rattle.agreement.specs.declared.call.Outcome.TheVariants.{Denied}
 use Rattle.agreement.specs.History.{History, tells}
 use Rattle.agreement.proofs.Spots.{Words, Spot, at, m_tn, words_of, event, words_silent, words_denied}
 use Rattle.agreement.proofs.Closed.{Closed}
@@ -36,13 +36,6 @@ those_resumed n q (r ∷ rs) = go (q r) (eqb r.tn n) refl refl (those_resumed n 
     go false true e f ih = rw e ih
     go false false e f ih = ih
 
-resumed_tn : (s : AModel) (r : ARecord) → a_tn (resumed s r) ≡ a_tn r
-resumed_tn s r = go (resumable s r)
-  where
-    go : (b : Bool) → a_tn (cond b (becomes Waiting r) r) ≡ a_tn r
-    go true = refl
-    go false = refl
-
 not_requested : (s : AState) → is_suspended s ≡ true → runs2 s ≡ false
 not_requested Requested h = sym h
 not_requested Waiting h = refl
@@ -52,7 +45,7 @@ not_requested Calling h = refl
 
 module _ (n : ℕ) (P : Spot → Type 0) (closed : Closed n P) where
   -- a denial leaves every spot
-  pub denied_keeps : (past : History) (c : Call) (e : Denial) (x : ℕ) (ra : List ARecord) (rb : List BRecord) (tb ta : List Values) → P (here n past x ra rb tb ta) → P (here n (record { call = c; outcome = Denied e } ∷ past) x ra rb tb ta)
+  pub denied_keeps : (past : History) (c : Call) (e : Denial) (x : ℕ) (ra : List ARecord) (rb : List BRecord) (tb ta : List Values) → P (here n past x ra rb tb ta) → P (here n (record { call = c; outcome = Err e } ∷ past) x ra rb tb ta)
   denied_keeps past c e x ra rb tb ta p = subst (λ ws. P (at x ws (those a_tn n ra) (those b_tn n rb) (those m_tn n tb) (those m_tn n ta))) (sym (words_denied n c e past)) p
 
   -- the resumption, last in an accepted call

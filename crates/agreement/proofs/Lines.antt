@@ -1,21 +1,21 @@
 -- The destination's table: one Recalling record for a destination at most, records in the order of their storing, and recalls in turn.
-use Rattle.std.proofs.Common.{◌≡◌, ℕ, suc, ◌+◌, ◌≤◌, Bool, true, false, cond, not, ◌&&◌, eqb, ◌⊎◌, List, [], ◌∷◌, ◌++◌, map, length, Some, None, filter, Option, sym, refl, ap, ◌∙◌, subst, inl, inr, arith}
+use Rattle.std.proofs.Common.{◌≡◌, ℕ, suc, ◌+◌, ◌≤◌, Bool, true, false, cond, not, ◌&&◌, eqb, ◌⊎◌, List, [], ◌∷◌, ◌++◌, map, length, Some, None, Ok, Err, filter, Option, sym, refl, ap, ◌∙◌, subst, inl, inr, arith}
 use Rattle.std.proofs.lemmas.List.{map_push}
+use Rattle.std.proofs.lemmas.Simd.{map-map}
 use Rattle.std.proofs.lemmas.Bool.{eqb-true, and_parts, and_right, and_left, or_parts, not-true}
 use Rattle.answers.specs.declared.denial.Denial.{Denial}
 use Rattle.answers.specs.declared.answer.Answer.{Answer}
 use Rattle.tables.specs.Tables.{added, became, removed, without, replaced, those, changed, times, first_by}
 use Rattle.waiting_line.specs.Searches.{some}
 use Rattle.tables.proofs.Tables.{never, never_some, same_number}
+use Rattle.tables.proofs.Counting.{times_none, times_push, times_map}
 use Rattle.b_side.specs.declared.line.LineFacts.{LineFacts}
 use Rattle.b_side.specs.declared.record.BState.{BState}
 use Rattle.b_side.specs.declared.record.BState.TheVariants.{Queued, Suspended, Recalling}
 use Rattle.b_side.specs.declared.record.BRecord.{BRecord}
 use Rattle.b_side.specs.Rules.{b_tn, b_aged, is_queued, is_recalling, is_suspended, queued_at, recalling_at, guard_due, guard_over}
 use Rattle.agreement.specs.declared.call.Call.{Call}
-use Rattle.agreement.specs.declared.call.Outcome.{Outcome}
-use Rattle.agreement.specs.declared.call.Outcome.TheVariants.{Answered, Denied}
-use Rattle.agreement.specs.World.{World}
+use Rattle.agreement.specs.World.{Outcome, World}
 use Rattle.agreement.specs.History.{History, is_a, told_by_b, freed_in, pending_b, suspended_b, destination, goes_to, stored_numbers, InTurn, Fair}
 use Rattle.agreement.proofs.Spots.{spot, event}
 use Rattle.agreement.proofs.States.{or_false, suspended_r}
@@ -57,18 +57,6 @@ module _ (q : BRecord → Bool) where
       go false false true e g ih = rw e (let h : times q (replaced b_tn s rs) ≤ times q rs + 1 = rw g at ih in omega arith)
       go false false false e g ih = rw e (let h : times q (replaced b_tn s rs) ≤ times q rs + 0 = rw g at ih in omega arith)
 
-  times_pushed : (rs : List BRecord) (r : BRecord) → q r ≡ false → times q (rs ++ r ∷ []) ≡ times q rs
-  times_pushed [] r h = rw h
-  times_pushed (x ∷ rs) r h = ap (λ k. cond (q x) (suc k) k) (times_pushed rs r h)
-
-  times_none : (rs : List BRecord) → some q rs ≡ false → times q rs ≡ 0
-  times_none [] h = refl
-  times_none (r ∷ rs) h = rw (or_parts (q r) _ h).0 (times_none rs (or_parts (q r) _ h).1)
-
-times_aged : (b : ℕ) (rs : List BRecord) → times (recalling_at b) (map b_aged rs) ≡ times (recalling_at b) rs
-times_aged b [] = refl
-times_aged b (r ∷ rs) = ap (λ k. cond (recalling_at b r) (suc k) k) (times_aged b rs)
-
 -- The numbers over a change
 
 map_replaced : (s : BRecord) (rs : List BRecord) → map b_tn (replaced b_tn s rs) ≡ map b_tn rs
@@ -87,10 +75,6 @@ map_without k (r ∷ rs) = go (eqb r.tn k) (map_without k rs)
     go true ih = refl
     go false ih = ap (λ ks. r.tn ∷ ks) ih
 
-map_aged : (rs : List BRecord) → map b_tn (map b_aged rs) ≡ map b_tn rs
-map_aged [] = refl
-map_aged (r ∷ rs) = ap (λ ks. r.tn ∷ ks) (map_aged rs)
-
 -- Events
 
 pub lines_a : (past : History) (rs : List BRecord) (c : Call) (o : Outcome) → is_a c ≡ true → Lines past rs → Lines (record { call = c; outcome = o } ∷ past) rs
@@ -100,26 +84,26 @@ lines_a past rs c o hc p = record {
   fair = (subst (λ b. InTurn (told_by_b freed_in b o) past) (sym hc) tt, p.fair);
 }
 
-pub lines_denied : (past : History) (rs : List BRecord) (c : Call) (e : Denial) → Lines past rs → Lines (record { call = c; outcome = Denied e } ∷ past) rs
+pub lines_denied : (past : History) (rs : List BRecord) (c : Call) (e : Denial) → Lines past rs → Lines (record { call = c; outcome = Err e } ∷ past) rs
 lines_denied past rs c e p = go (is_a c) refl
   where
-    go : (b : Bool) → is_a c ≡ b → Lines (record { call = c; outcome = Denied e } ∷ past) rs
-    go true h = lines_a past rs c (Denied e) h p
-    go false h = record { single = p.single; order = p.order ∙ ap (λ b. table_after (table past) b (Denied e)) (sym h); fair = (subst (λ b. InTurn (told_by_b freed_in b (Denied e)) past) (sym h) tt, p.fair) }
+    go : (b : Bool) → is_a c ≡ b → Lines (record { call = c; outcome = Err e } ∷ past) rs
+    go true h = lines_a past rs c (Err e) h p
+    go false h = record { single = p.single; order = p.order ∙ ap (λ b. table_after (table past) b (Err e)) (sym h); fair = (subst (λ b. InTurn (told_by_b freed_in b (Err e)) past) (sym h) tt, p.fair) }
 
 module _ (past : History) (c : Call) (hc : is_a c ≡ false) where
   pub lines_b : (a : Answer) (rs : List BRecord) → Single rs → map b_tn rs ≡ listed (table past) a → InTurn (freed_in a) past → Fair past → Lines (event c a ∷ past) rs
   lines_b a rs s o t f = record {
     single = s;
-    order = o ∙ ap (λ b. table_after (table past) b (Answered a)) (sym hc);
-    fair = (subst (λ b. InTurn (told_by_b freed_in b (Answered a)) past) (sym hc) t, f);
+    order = o ∙ ap (λ b. table_after (table past) b (Ok a)) (sym hc);
+    fair = (subst (λ b. InTurn (told_by_b freed_in b (Ok a)) past) (sym hc) t, f);
   }
 
   pub lines_same : (a : Answer) (rs : List BRecord) → listed (table past) a ≡ table past → InTurn (freed_in a) past → Lines past rs → Lines (event c a ∷ past) rs
   lines_same a rs h t p = lines_b a rs p.single (p.order ∙ sym h) t p.fair
 
   pub lines_aged : (a : Answer) (rs : List BRecord) → listed (table past) a ≡ table past → InTurn (freed_in a) past → Lines past rs → Lines (event c a ∷ past) (map b_aged rs)
-  lines_aged a rs h t p = lines_b a (map b_aged rs) (λ b. omega (arith, times_aged b rs, p.single b)) (map_aged rs ∙ p.order ∙ sym h) t p.fair
+  lines_aged a rs h t p = lines_b a (map b_aged rs) (λ b. omega (arith, times_map (recalling_at b) b_aged (λ r. refl) rs, p.single b)) (map-map b_tn b_aged rs ∙ p.order ∙ sym h) t p.fair
 
   pub lines_became : (a : Answer) (rs : List BRecord) (r : BRecord) → is_recalling r.state ≡ false → listed (table past) a ≡ table past → InTurn (freed_in a) past → Lines past rs → Lines (event c a ∷ past) (changed b_tn (became r) rs)
   lines_became a rs r hr h t p =
@@ -140,7 +124,7 @@ module _ (past : History) (c : Call) (hc : is_a c ≡ false) where
 
   pub lines_stored : (a : Answer) (rs : List BRecord) (r : BRecord) → is_recalling r.state ≡ false → listed (table past) a ≡ table past ++ r.tn ∷ [] → InTurn (freed_in a) past → Lines past rs → Lines (event c a ∷ past) (changed b_tn (added r) rs)
   lines_stored a rs r hr h t p =
-      lines_b a (rs ++ r ∷ []) (λ b. omega (arith, times_pushed (recalling_at b) rs r (and_right (eqb r.destination b) _ hr), p.single b)) (map_push b_tn rs r ∙ ap (λ ks. ks ++ r.tn ∷ []) p.order ∙ sym h) t p.fair
+      lines_b a (rs ++ r ∷ []) (λ b. let z : recalling_at b r ≡ false = and_right (eqb r.destination b) _ hr in let l = rw z at (times_push (recalling_at b) rs r) in omega (arith, l, p.single b)) (map_push b_tn rs r ∙ ap (λ ks. ks ++ r.tn ∷ []) p.order ∙ sym h) t p.fair
 
   pub lines_ended : (a : Answer) (rs : List BRecord) (k : ℕ) → listed (table past) a ≡ without itself k (table past) → InTurn (freed_in a) past → Lines past rs → Lines (event c a ∷ past) (changed b_tn (removed k) rs)
   lines_ended a rs k h t p =

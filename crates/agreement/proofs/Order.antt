@@ -1,13 +1,13 @@
 -- The numbers pending at B, in the order of their storing: as a table that follows the answers, and as a choice from all that were stored.
-use Rattle.std.proofs.Common.{◌≡◌, ℕ, suc, ◌≤◌, Bool, true, false, cond, not, ◌&&◌, ◌||◌, eqb, List, [], ◌∷◌, ◌++◌, filter, sym, refl, ap, ◌∙◌, subst, arith}
+use Rattle.std.proofs.Common.{◌≡◌, ℕ, suc, ◌≤◌, Bool, true, false, cond, not, ◌&&◌, ◌||◌, eqb, List, [], ◌∷◌, ◌++◌, filter, Ok, Err, sym, refl, ap, ◌∙◌, subst, arith}
 use Rattle.std.proofs.lemmas.List.Elements.{filter-append}
 use Rattle.std.proofs.lemmas.Bool.{eqb-true, eqb-false, ne_eqb, eq-eqb}
 use Rattle.answers.specs.declared.answer.Answer.{Answer}
 use Rattle.answers.specs.declared.answer.Answer.TheVariants.{Done as done, Nothing as nothing, Requested as requested, Accepted as accepted, Recall as recall, Suspended as suspended, Calling as calling, Kept as kept, Stray as stray, Stored as stored, Rejected as rejected, Freed as freed, Resumed as resumed, Ended as ended}
 use Rattle.tables.specs.Tables.{without, times}
 use Rattle.tables.proofs.Tables.{same_number}
-use Rattle.agreement.specs.declared.call.Outcome.{Outcome}
-use Rattle.agreement.specs.declared.call.Outcome.TheVariants.{Answered, Denied}
+use Rattle.tables.proofs.Counting.{times_push}
+use Rattle.agreement.specs.World.{Outcome}
 use Rattle.agreement.specs.History.{History, is_a, answers, stores, ends, stores_at_b, pending_b, stored_numbers, stored_in, told_by_b, also}
 
 abbrev pub itself : ℕ → ℕ
@@ -31,8 +31,8 @@ listed t (ended m c) = without itself m t
 
 abbrev pub table_after : List ℕ → Bool → Outcome → List ℕ
 table_after t true o = t
-table_after t false (Answered a) = listed t a
-table_after t false (Denied e) = t
+table_after t false (Ok a) = listed t a
+table_after t false (Err e) = t
 
 abbrev pub table : History → List ℕ
 table [] = []
@@ -76,8 +76,8 @@ kept_ended k p (j ∷ ns) h = go (eqb j k) (p j) refl h (kept_ended k p ns)
 -- one more event
 step_order : (b : Bool) (o : Outcome) (t ns : List ℕ) (p : ℕ → Bool) → t ≡ filter p ns → ((n : ℕ) → among n ns ≤ 1) → ((n : ℕ) → (not b && answers (stores n) o) ≡ true → among n ns ≡ 0) → table_after t b o ≡ filter (λ n. (not b && answers (stores n) o) || (not (not b && answers (ends n) o) && p n)) (also ns (told_by_b stored_in b o))
 step_order true o t ns p e h k = e
-step_order false (Denied d) t ns p e h k = e
-step_order false (Answered a) t ns p e h k = go a k
+step_order false (Err d) t ns p e h k = e
+step_order false (Ok a) t ns p e h k = go a k
   where
     go : (a : Answer) → ((n : ℕ) → stores n a ≡ true → among n ns ≡ 0) → listed t a ≡ filter (λ n. stores n a || (not (ends n a) && p n)) (also ns (stored_in a))
     go done k = e
@@ -101,21 +101,11 @@ step_order false (Answered a) t ns p e h k = go a k
     go (resumed m) k = e
     go (ended m c) k = ap (without itself m) e ∙ kept_ended m p ns (h m)
 
-swap : (b d : Bool) (x y : ℕ) → x ≡ cond d (suc y) y → cond b (suc x) x ≡ cond d (suc (cond b (suc y) y)) (cond b (suc y) y)
-swap true true x y ih = ap suc ih
-swap true false x y ih = ap suc ih
-swap false true x y ih = ih
-swap false false x y ih = ih
-
-push : (n m : ℕ) (ms : List ℕ) → among n (ms ++ m ∷ []) ≡ cond (eqb m n) (suc (among n ms)) (among n ms)
-push n m [] = refl
-push n m (j ∷ ms) = swap (eqb j n) (eqb m n) _ _ (push n m ms)
-
 -- how often a number was stored
 count_step : (b : Bool) (o : Outcome) (n : ℕ) (ns : List ℕ) → among n (also ns (told_by_b stored_in b o)) ≡ cond (not b && answers (stores n) o) (suc (among n ns)) (among n ns)
 count_step true o n ns = refl
-count_step false (Denied d) n ns = refl
-count_step false (Answered a) n ns = go a
+count_step false (Err d) n ns = refl
+count_step false (Ok a) n ns = go a
   where
     go : (a : Answer) → among n (also ns (stored_in a)) ≡ cond (stores n a) (suc (among n ns)) (among n ns)
     go done = refl
@@ -127,7 +117,7 @@ count_step false (Answered a) n ns = go a
     go (calling m) = refl
     go (kept m) = refl
     go (stray m) = refl
-    go (stored m) = push n m ns
+    go (stored m) = times_push (λ (j : ℕ). eqb j n) ns m
     go (rejected m c) = refl
     go (freed m) = refl
     go (resumed m) = refl

@@ -1,5 +1,5 @@
 -- The spot of a transaction: what the history says of it, its records at the two sides, and its messages on the two channels.
-use Rattle.std.proofs.Common.{◌≡◌, ℕ, suc, Bool, true, false, cond, not, ◌&&◌, ◌||◌, eqb, List, ◌∷◌, Option, refl, ◌∙◌}
+use Rattle.std.proofs.Common.{◌≡◌, ℕ, suc, Bool, true, false, cond, not, ◌&&◌, ◌||◌, eqb, List, ◌∷◌, Ok, Err, Option, refl, ◌∙◌}
 use Rattle.answers.specs.declared.denial.Denial.{Denial}
 use Rattle.answers.specs.declared.answer.Answer.{Answer}
 use Rattle.answers.specs.declared.answer.Answer.TheVariants.{Done as done, Nothing as nothing, Requested as requested, Accepted as accepted, Recall as recall, Suspended as suspended, Calling as calling, Kept as kept, Stray as stray, Stored as stored, Rejected as rejected, Freed as freed, Resumed as resumed, Ended as ended}
@@ -10,7 +10,6 @@ use Rattle.a_side.specs.Rules.{a_tn}
 use Rattle.b_side.specs.declared.record.BRecord.{BRecord}
 use Rattle.b_side.specs.Rules.{b_tn}
 use Rattle.agreement.specs.declared.call.Call.{Call}
-use Rattle.agreement.specs.declared.call.Outcome.TheVariants.{Answered, Denied}
 use Rattle.agreement.specs.World.{World}
 use Rattle.agreement.specs.History.{Event, History, is_a, is_return, asks_for, requests, stores, ends, recalls, ends_recall, suspends, ends_suspension, tells, gives_out, stores_at_b, ends_at_a, ends_at_b, pending_a, pending_b, under_recall, suspended_b, returned, destination}
 
@@ -74,13 +73,13 @@ words_with a r to req sto end fre unf sus uns tel ws = record {
 }
 
 abbrev pub event : Call → Answer → Event
-event c a = record { call = c; outcome = Answered a }
+event c a = record { call = c; outcome = Ok a }
 
 -- the words after one more answered call
 words_more : (n : ℕ) (c : Call) (a : Answer) (past : History) → words_of n (event c a ∷ past) ≡ words_with (is_a c) (is_return c) (asks_for c) (requests n a) (stores n a) (ends n a) (recalls n a) (ends_recall n a) (suspends n a) (ends_suspension n a) (tells n a) (words_of n past)
 words_more n c a past = refl
 
-pub words_denied : (n : ℕ) (c : Call) (e : Denial) (past : History) → words_of n (record { call = c; outcome = Denied e } ∷ past) ≡ words_of n past
+pub words_denied : (n : ℕ) (c : Call) (e : Denial) (past : History) → words_of n (record { call = c; outcome = Err e } ∷ past) ≡ words_of n past
 words_denied n c e past = go (is_a c) (is_return c)
   where
     go : (a r : Bool) → words_with a r (asks_for c) false false false false false false false false (words_of n past) ≡ words_of n past

@@ -1,10 +1,13 @@
 -- What is on the way: a transaction pending at one side only has a message that tells the other, unless one was returned.
 use Rattle.std.proofs.Common.{◌≡◌, Bool, true, false, ◌||◌, List, [], ◌∷◌, ◌++◌, sym, refl, ap, ◌∙◌}
-use Rattle.std.proofs.lemmas.Bool.{or_left, or_right, or_parts}
+use Rattle.std.proofs.lemmas.Bool.{or_left, or_right, or_parts, false_from_ne_true, false≢true}
+use Rattle.std.proofs.lemmas.List.Folds.{list_any-append}
 use Rattle.waiting_line.specs.Searches.{some}
-use Rattle.tables.proofs.Tables.{never, rest}
+use Rattle.tables.proofs.Tables.{never, never_both, rest}
+use Rattle.tables.proofs.Counting.{some_push}
+use Rattle.messages.specs.Kinds.{letter_of}
 use Rattle.messages.specs.declared.kind.Kind.{Kind}
-use Rattle.messages.specs.declared.kind.Kind.TheVariants.{Request as Q, Suspend as S, Resume as M, Call as C, Cancel as X, Result as R, Error as E, RemoteUserFree as F, CallDone as D, CallBusy as B}
+use Rattle.messages.specs.declared.kind.Kind.TheVariants.{Request as Q, Cancel as X}
 use Rattle.messages.specs.declared.values.Values.{Values}
 use Rattle.a_side.specs.declared.record.ARecord.{ARecord}
 use Rattle.b_side.specs.declared.record.BRecord.{BRecord}
@@ -50,20 +53,10 @@ pub record Local (ra : List ARecord) (rb : List BRecord) (tb ta : List Values) :
 
 module _ (q : Values → Bool) where
   pub added_yes : (ms : List Values) (m : Values) → q m ≡ true → some q (ms ++ m ∷ []) ≡ true
-  added_yes [] m h = or_left (q m) false h
-  added_yes (y ∷ ms) m h = or_right (q y) _ (added_yes ms m h)
-
-  pub added_no : (ms : List Values) (m : Values) → q m ≡ false → some q (ms ++ m ∷ []) ≡ some q ms
-  added_no [] m h = or_false (q m) ∙ h
-  added_no (y ∷ ms) m h = ap (λ b. q y || b) (added_no ms m h)
+  added_yes ms m h = list_any-append q ms (m ∷ []) ∙ or_right (some q ms) _ (or_left (q m) false h)
 
   pub added_keeps : (ms : List Values) (m : Values) → some q ms ≡ true → some q (ms ++ m ∷ []) ≡ true
-  added_keeps [] m h = never (sym h)
-  added_keeps (y ∷ ms) m h = go (q y) h (added_keeps ms m)
-    where
-      go : (b : Bool) → (b || some q ms) ≡ true → (some q ms ≡ true → some q (ms ++ m ∷ []) ≡ true) → (b || some q (ms ++ m ∷ [])) ≡ true
-      go true e ih = refl
-      go false e ih = ih e
+  added_keeps ms m h = list_any-append q ms (m ∷ []) ∙ or_left (some q ms) _ h
 
   pub taken_no : (m : Values) (ms : List Values) → q m ≡ false → some q (m ∷ ms) ≡ some q ms
   taken_no m ms h = ap (λ b. b || some q ms) h
@@ -81,24 +74,10 @@ module _ (q : Values → Bool) where
 
   pub late_added : (ms : List Values) (m : Values) → q m ≡ false → some q (rest ms) ≡ false → some q (rest (ms ++ m ∷ [])) ≡ false
   late_added [] m h p = refl
-  late_added (y ∷ ms) m h p = added_no ms m h ∙ p
+  late_added (y ∷ ms) m h p = some_push q ms m h ∙ p
 
 no_cancel : (k : Kind) → is_q k ≡ true → is_x k ≡ false
-no_cancel Q h = refl
-no_cancel S h = refl
-no_cancel M h = refl
-no_cancel C h = refl
-no_cancel X h = sym h
-no_cancel R h = refl
-no_cancel E h = refl
-no_cancel F h = refl
-no_cancel D h = refl
-no_cancel B h = refl
-
--- what is not true is false
-otherwise : (b : Bool) → (b ≡ true → false ≡ true) → b ≡ false
-otherwise true h = sym (h refl)
-otherwise false h = refl
+no_cancel k h = never_both (letter_of k) (letter_of Q) (letter_of X) h refl
 
 module _ (ra : List ARecord) (rb : List BRecord) (tb ta : List Values) where
   pub l_asks : (r : ARecord) (m : Values) → requested r ≡ true → is_q m.kind ≡ true → Local (r ∷ []) [] (m ∷ []) []
@@ -116,7 +95,7 @@ module _ (ra : List ARecord) (rb : List BRecord) (tb ta : List Values) where
 
   pub l_leaves : (r : ARecord) (m : Values) → is_x m.kind ≡ true → Local (r ∷ []) rb tb ta → Local [] rb (tb ++ m ∷ []) ta
   l_leaves r m mx p =
-      let same : some request (tb ++ m ∷ []) ≡ some request tb = added_no request tb m (no_request _ mx) in
+      let same : some request (tb ++ m ∷ []) ≡ some request tb = some_push request tb m (no_request _ mx) in
       record {
         q1 = λ h. p.q1 (sym same ∙ h);
         q2 = λ h. p.q2 (sym same ∙ h);
@@ -137,7 +116,7 @@ module _ (ra : List ARecord) (rb : List BRecord) (tb ta : List Values) where
     late = p.late;
     t = p.t;
     a = λ h k. never h;
-    b = λ h k. or_right (some cancels tb) _ (or_left _ _ (p.r refl rq (otherwise (some request tb) (λ e. sym h ∙ p.q1 e)) h));
+    b = λ h k. or_right (some cancels tb) _ (or_left _ _ (p.r refl rq (false_from_ne_true (some request tb) (λ e. false≢true (sym h ∙ p.q1 e))) h));
     r = λ h k l j. never h;
     x = λ h. refl;
   }
@@ -157,7 +136,7 @@ module _ (ra : List ARecord) (rb : List BRecord) (tb ta : List Values) where
 
   pub l_says : (r r' : ARecord) (m : Values) → requested r ≡ false → requested r' ≡ false → is_q m.kind ≡ false → is_x m.kind ≡ false → Local (r ∷ []) rb tb ta → Local (r' ∷ []) rb (tb ++ m ∷ []) ta
   l_says r r' m rq rq' mq mx p =
-      let same : some request (tb ++ m ∷ []) ≡ some request tb = added_no request tb m mq in
+      let same : some request (tb ++ m ∷ []) ≡ some request tb = some_push request tb m mq in
       record {
         q1 = λ h. p.q1 (sym same ∙ h);
         q2 = λ h. p.q2 (sym same ∙ h);
@@ -167,12 +146,12 @@ module _ (ra : List ARecord) (rb : List BRecord) (tb ta : List Values) where
         a = λ h k. ap (λ b. b || some terminal ta) same ∙ p.a h k;
         b = λ h k. never (sym k);
         r = λ h k l j. never (sym k ∙ rq');
-        x = λ h. p.x (sym (added_no cancels tb m mx) ∙ h);
+        x = λ h. p.x (sym (some_push cancels tb m mx) ∙ h);
       }
 
   pub l_strays : (m y : Values) → is_x y.kind ≡ true → Local [] rb tb (m ∷ ta) → Local [] rb (tb ++ y ∷ []) ta
   l_strays m y yx p =
-      let same : some request (tb ++ y ∷ []) ≡ some request tb = added_no request tb y (no_request _ yx) in
+      let same : some request (tb ++ y ∷ []) ≡ some request tb = some_push request tb y (no_request _ yx) in
       record {
         q1 = λ h. p.q1 (sym same ∙ h);
         q2 = λ h. never (sym (p.q2 (sym same ∙ h)));
@@ -234,7 +213,7 @@ module _ (ra : List ARecord) (rb : List BRecord) (tb ta : List Values) where
         q2 = λ h. never (sym h ∙ p.late);
         q3 = λ h. never (sym h ∙ p.late);
         late = rest_no request tb p.late;
-        t = λ h. never (sym (sym (added_no terminal ta y yt) ∙ h) ∙ none_no terminal ta (p.q2 here));
+        t = λ h. never (sym (sym (some_push terminal ta y yt) ∙ h) ∙ none_no terminal ta (p.q2 here));
         a = λ h k. never (sym k);
         b = λ h k. or_right (some cancels tb) _ (or_left _ _ (added_yes accepts ta y yr));
         r = λ h k l j. added_yes accepts ta y yr;
@@ -276,7 +255,7 @@ module _ (ra : List ARecord) (rb : List BRecord) (tb ta : List Values) where
     t = p.t;
     a = λ h k. never (sym k);
     b = λ h k. sym (ap (λ b. b || (some accepts ta || some recalls ta)) (taken_no cancels m tb mx)) ∙ p.b h k;
-    r = λ h k l j. p.r h k (otherwise (some request (m ∷ tb)) (λ e. p.q1 e)) j;
+    r = λ h k l j. p.r h k (false_from_ne_true (some request (m ∷ tb)) (λ e. false≢true (p.q1 e))) j;
     x = λ h. p.x (taken_keeps cancels m tb h);
   }
 
@@ -289,7 +268,7 @@ module _ (ra : List ARecord) (rb : List BRecord) (tb ta : List Values) where
     q2 = λ h. never (sym (p.q1 h));
     q3 = p.q3;
     late = p.late;
-    t = λ h. p.t (sym (added_no terminal ta y yt) ∙ h);
+    t = λ h. p.t (sym (some_push terminal ta y yt) ∙ h);
     a = λ h k. never (sym k);
     b = λ h k. go (some cancels tb) (p.b h k);
     r = λ h k l j. added_keeps accepts ta y (p.r h k l j);

@@ -1,6 +1,6 @@
 -- The edge cases of the rules, each with what it must come to: one list, one assertion.
 -- A run is tried on a fresh pair with 320 record places a side, 64 lines and 16 messages a channel; a line by reading it.
-use Rattle.std.specs.Prelude.{◌≡◌, ℕ, List, [], ◌∷◌, map, replicate, Err, codes, Result}
+use Rattle.std.specs.Prelude.{◌≡◌, ℕ, List, [], ◌∷◌, map, Ok, Err, replicate, codes, Result}
 use Prim.Native.String.{String}
 use Rattle.answers.specs.declared.answer.Answer.TheVariants.{Done, Nothing, Requested, Accepted, Recall, Suspended, Calling, Kept, Stray, Stored, Rejected, Freed, Resumed, Ended}
 use Rattle.answers.specs.declared.cause.Cause.TheVariants.{NotGiven, T7Over, Withdrawn, ShortTermDenial, MessageReturned}
@@ -16,10 +16,8 @@ use Rattle.a_side.specs.declared.settings.ASettings.{ASettings}
 use Rattle.b_side.specs.declared.settings.BSettings.{BSettings}
 use Rattle.agreement.specs.declared.call.Call.{Call}
 use Rattle.agreement.specs.declared.call.Call.TheVariants.{Activate, Withdraw, AnswerRecall, ALineBusy, ALineFree, ATick, AExpiry, BLineBusy, BLineFree, BTick, BExpiry, DeliverToA, DeliverToB, ReturnToB}
-use Rattle.agreement.specs.declared.call.Outcome.{Outcome}
-use Rattle.agreement.specs.declared.call.Outcome.TheVariants.{Answered, Denied}
 use Rattle.b_side.specs.Rules.{idle}
-use Rattle.agreement.specs.World.{fresh, told}
+use Rattle.agreement.specs.World.{Outcome, fresh, told}
 
 -- what is tried
 pub data Trial : Type 0 where
@@ -49,8 +47,8 @@ edges =
       trial = run (settings_a 10) (settings_b 90 5) (Activate 63 9 1 ∷ Activate 64 9 1 ∷ []);
       result =
           outcomes
-          (Answered (Requested 1)
-          ∷ Denied NoSuchParty
+          (Ok (Requested 1)
+          ∷ Err NoSuchParty
           ∷ []);
     }
     ∷  -- with five requests allowed a sixth is denied with 7, and accepted after a withdrawal
@@ -68,14 +66,14 @@ edges =
           ∷ []);
       result =
           outcomes
-          (Answered (Requested 1)
-          ∷ Answered (Requested 2)
-          ∷ Answered (Requested 3)
-          ∷ Answered (Requested 4)
-          ∷ Answered (Requested 5)
-          ∷ Denied UserFull
-          ∷ Answered (Ended 2 Withdrawn)
-          ∷ Answered (Requested 6)
+          (Ok (Requested 1)
+          ∷ Ok (Requested 2)
+          ∷ Ok (Requested 3)
+          ∷ Ok (Requested 4)
+          ∷ Ok (Requested 5)
+          ∷ Err UserFull
+          ∷ Ok (Ended 2 Withdrawn)
+          ∷ Ok (Requested 6)
           ∷ []);
     }
     ∷  -- with a queue limit of one the second user's request is rejected with cause 6
@@ -91,12 +89,12 @@ edges =
           ∷ []);
       result =
           outcomes
-          (Answered (Requested 1)
-          ∷ Answered (Requested 2)
-          ∷ Answered (Stored 1)
-          ∷ Answered (Rejected 2 ShortTermDenial)
-          ∷ Answered (Accepted 1)
-          ∷ Answered (Ended 2 ShortTermDenial)
+          (Ok (Requested 1)
+          ∷ Ok (Requested 2)
+          ∷ Ok (Stored 1)
+          ∷ Ok (Rejected 2 ShortTermDenial)
+          ∷ Ok (Accepted 1)
+          ∷ Ok (Ended 2 ShortTermDenial)
           ∷ []);
     }
     ∷  -- the first record is Suspended: the second is recalled
@@ -122,22 +120,22 @@ edges =
           ∷ []);
       result =
           outcomes
-          (Answered (Requested 1)
-          ∷ Answered (Requested 2)
-          ∷ Answered (Stored 1)
-          ∷ Answered (Stored 2)
-          ∷ Answered (Accepted 1)
-          ∷ Answered (Accepted 2)
-          ∷ Answered Done
-          ∷ Answered Done
-          ∷ Answered (Freed 1)
-          ∷ Answered (Suspended 1)
-          ∷ Answered (Suspended 1)
-          ∷ Answered Done
-          ∷ Answered (Freed 2)
-          ∷ Answered (Recall 2)
-          ∷ Answered (Calling 2)
-          ∷ Answered Done
+          (Ok (Requested 1)
+          ∷ Ok (Requested 2)
+          ∷ Ok (Stored 1)
+          ∷ Ok (Stored 2)
+          ∷ Ok (Accepted 1)
+          ∷ Ok (Accepted 2)
+          ∷ Ok Done
+          ∷ Ok Done
+          ∷ Ok (Freed 1)
+          ∷ Ok (Suspended 1)
+          ∷ Ok (Suspended 1)
+          ∷ Ok Done
+          ∷ Ok (Freed 2)
+          ∷ Ok (Recall 2)
+          ∷ Ok (Calling 2)
+          ∷ Ok Done
           ∷ []);
     }
     ∷  -- retained busy: the place is kept, so that 1 is recalled again before 2; T7 is not restarted, so that it is over for both at once
@@ -167,26 +165,26 @@ edges =
           ∷ []);
       result =
           outcomes
-          (Answered (Requested 1)
-          ∷ Answered (Requested 2)
-          ∷ Answered (Stored 1)
-          ∷ Answered (Stored 2)
-          ∷ Answered (Accepted 1)
-          ∷ Answered (Accepted 2)
-          ∷ Answered Done
-          ∷ Answered (Freed 1)
-          ∷ Answered (Recall 1)
-          ∷ Answered (Calling 1)
-          ∷ Answered Done
-          ∷ Answered (Kept 1)
-          ∷ Answered (Kept 1)
-          ∷ Answered Done
-          ∷ Answered Done
-          ∷ Answered (Freed 1)
-          ∷ Answered Done
-          ∷ Answered Done
-          ∷ Answered (Ended 1 T7Over)
-          ∷ Answered (Ended 2 T7Over)
+          (Ok (Requested 1)
+          ∷ Ok (Requested 2)
+          ∷ Ok (Stored 1)
+          ∷ Ok (Stored 2)
+          ∷ Ok (Accepted 1)
+          ∷ Ok (Accepted 2)
+          ∷ Ok Done
+          ∷ Ok (Freed 1)
+          ∷ Ok (Recall 1)
+          ∷ Ok (Calling 1)
+          ∷ Ok Done
+          ∷ Ok (Kept 1)
+          ∷ Ok (Kept 1)
+          ∷ Ok Done
+          ∷ Ok Done
+          ∷ Ok (Freed 1)
+          ∷ Ok Done
+          ∷ Ok Done
+          ∷ Ok (Ended 1 T7Over)
+          ∷ Ok (Ended 2 T7Over)
           ∷ []);
     }
     ∷  -- T2 over before R arrives: R is answered by X, and B ends
@@ -202,12 +200,12 @@ edges =
           ∷ []);
       result =
           outcomes
-          (Answered (Requested 1)
-          ∷ Answered (Stored 1)
-          ∷ Answered Done
-          ∷ Answered (Ended 1 ShortTermDenial)
-          ∷ Answered (Stray 1)
-          ∷ Answered (Ended 1 NotGiven)
+          (Ok (Requested 1)
+          ∷ Ok (Stored 1)
+          ∷ Ok Done
+          ∷ Ok (Ended 1 ShortTermDenial)
+          ∷ Ok (Stray 1)
+          ∷ Ok (Ended 1 NotGiven)
           ∷ []);
     }
     ∷  -- a withdrawal and T7 over cross: each side ends once
@@ -225,14 +223,14 @@ edges =
           ∷ []);
       result =
           outcomes
-          (Answered (Requested 1)
-          ∷ Answered (Stored 1)
-          ∷ Answered (Accepted 1)
-          ∷ Answered Done
-          ∷ Answered (Ended 1 T7Over)
-          ∷ Answered (Ended 1 Withdrawn)
-          ∷ Answered (Nothing 1)
-          ∷ Answered (Nothing 1)
+          (Ok (Requested 1)
+          ∷ Ok (Stored 1)
+          ∷ Ok (Accepted 1)
+          ∷ Ok Done
+          ∷ Ok (Ended 1 T7Over)
+          ∷ Ok (Ended 1 Withdrawn)
+          ∷ Ok (Nothing 1)
+          ∷ Ok (Nothing 1)
           ∷ []);
     }
     ∷  -- a guard that has just started is not over
@@ -240,9 +238,9 @@ edges =
       trial = run (settings_a 10) (settings_b 90 5) (Activate 3 9 1 ∷ DeliverToB ∷ BExpiry ∷ []);
       result =
           outcomes
-          (Answered (Requested 1)
-          ∷ Answered (Stored 1)
-          ∷ Denied NoneDue
+          (Ok (Requested 1)
+          ∷ Ok (Stored 1)
+          ∷ Err NoneDue
           ∷ []);
     }
     ∷  -- a withdrawal makes the user free again: the suspended request is resumed at both sides
@@ -267,21 +265,21 @@ edges =
           ∷ []);
       result =
           outcomes
-          (Answered (Requested 1)
-          ∷ Answered (Requested 2)
-          ∷ Answered (Stored 1)
-          ∷ Answered (Stored 2)
-          ∷ Answered Done
-          ∷ Answered (Freed 1)
-          ∷ Answered (Freed 2)
-          ∷ Answered (Accepted 1)
-          ∷ Answered (Accepted 2)
-          ∷ Answered (Recall 1)
-          ∷ Answered (Suspended 2)
-          ∷ Answered (Ended 1 Withdrawn)
-          ∷ Answered (Suspended 2)
-          ∷ Answered (Ended 1 NotGiven)
-          ∷ Answered (Resumed 2)
+          (Ok (Requested 1)
+          ∷ Ok (Requested 2)
+          ∷ Ok (Stored 1)
+          ∷ Ok (Stored 2)
+          ∷ Ok Done
+          ∷ Ok (Freed 1)
+          ∷ Ok (Freed 2)
+          ∷ Ok (Accepted 1)
+          ∷ Ok (Accepted 2)
+          ∷ Ok (Recall 1)
+          ∷ Ok (Suspended 2)
+          ∷ Ok (Ended 1 Withdrawn)
+          ∷ Ok (Suspended 2)
+          ∷ Ok (Ended 1 NotGiven)
+          ∷ Ok (Resumed 2)
           ∷ []);
     }
     ∷  -- a result that comes back to B ends its record
@@ -289,9 +287,9 @@ edges =
       trial = run (settings_a 10) (settings_b 90 5) (Activate 3 9 1 ∷ DeliverToB ∷ ReturnToB ∷ []);
       result =
           outcomes
-          (Answered (Requested 1)
-          ∷ Answered (Stored 1)
-          ∷ Answered (Ended 1 MessageReturned)
+          (Ok (Requested 1)
+          ∷ Ok (Stored 1)
+          ∷ Ok (Ended 1 MessageReturned)
           ∷ []);
     }
     ∷  -- a line with transaction 0 is no lawful message: 14

@@ -1,6 +1,6 @@
 -- What a run tells, in the subject's words: a history is the list of its calls with their outcomes, the latest first.
 -- Every word goes by the calls' answers and their transaction alone; a request's destination is its activation's.
-use Rattle.std.specs.Prelude.{◌≡◌, ℕ, Bool, true, false, cond, not, ◌&&◌, ◌||◌, List, [], ◌∷◌, ◌++◌, Some, None, codes, Option, ◌==◌}
+use Rattle.std.specs.Prelude.{◌≡◌, ℕ, Bool, true, false, cond, not, ◌&&◌, ◌||◌, List, [], ◌∷◌, ◌++◌, Some, None, Ok, Err, codes, Option, ◌==◌}
 use Prim.Native.String.{String}
 use Rattle.std.specs.Str.{bytes_eq}
 use Rattle.answers.specs.declared.answer.Answer.{Answer}
@@ -9,9 +9,7 @@ use Rattle.tables.specs.Tables.{first_by}
 use Rattle.waiting_line.specs.Searches.{some}
 use Rattle.agreement.specs.declared.call.Call.{Call}
 use Rattle.agreement.specs.declared.call.Call.TheVariants.{Activate, Withdraw, AnswerRecall, ALineBusy, ALineFree, ATick, AExpiry, BLineBusy, BLineFree, SetForwarding, BTick, BExpiry, DeliverToA, DeliverToB, ReturnToA, ReturnToB}
-use Rattle.agreement.specs.declared.call.Outcome.{Outcome}
-use Rattle.agreement.specs.declared.call.Outcome.TheVariants.{Answered, Denied}
-use Rattle.agreement.specs.World.{World, step}
+use Rattle.agreement.specs.World.{Outcome, World, step}
 
 pub record Event : Type 0 where
   pub call : Call
@@ -101,8 +99,8 @@ tells n a = not (is_word a "done") && answer_transaction a == n
 
 -- the answer passes a test; a denial passes none
 abbrev pub answers : (Answer → Bool) → Outcome → Bool
-answers p (Answered a) = p a
-answers p (Denied e) = false
+answers p (Ok a) = p a
+answers p (Err e) = false
 
 abbrev pub at_a : (Answer → Bool) → Event → Bool
 at_a p e = is_a e.call && answers p e.outcome
@@ -192,8 +190,8 @@ freed_in = tells_by "freed"
 -- what an answer of B's tells
 abbrev pub told_by_b : (Answer → Option ℕ) → Bool → Outcome → Option ℕ
 told_by_b f true o = None
-told_by_b f false (Answered a) = f a
-told_by_b f false (Denied e) = None
+told_by_b f false (Ok a) = f a
+told_by_b f false (Err e) = None
 
 abbrev pub also : List ℕ → Option ℕ → List ℕ
 also ns (Some n) = ns ++ n ∷ []

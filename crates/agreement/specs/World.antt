@@ -1,6 +1,7 @@
 -- The pair with its two channels, and what each of the sixteen calls does to it.
 -- A call that its rows deny alters nothing.
-use Rattle.std.specs.Prelude.{ℕ, Bool, true, false, ◌||◌, List, [], ◌∷◌, ◌++◌, Some, None, Option, ◌==◌}
+use Rattle.std.specs.Prelude.{ℕ, Bool, true, false, ◌||◌, List, [], ◌∷◌, ◌++◌, Some, None, Ok, Err, Option, Result, ◌==◌}
+use Rattle.answers.specs.declared.answer.Answer.{Answer}
 use Rattle.answers.specs.declared.denial.Denial.{Denial}
 use Rattle.answers.specs.declared.denial.Denial.TheVariants.{NoneThere}
 use Rattle.waiting_line.specs.Searches.{some}
@@ -12,8 +13,6 @@ use Rattle.b_side.specs.declared.settings.BSettings.{BSettings}
 use Rattle.b_side.specs.Rules.{BModel, BDone, b_fresh, accept as accept_b, b_line_refusal, line_becomes, forwarding_refusal, forwarded, b_tick_refusal, b_ticked, b_expiry_refusal, b_expiring, b_deliver_refusal, b_receiving, b_return_refusal, b_returning}
 use Rattle.agreement.specs.declared.call.Call.{Call}
 use Rattle.agreement.specs.declared.call.Call.TheVariants.{Activate, Withdraw, AnswerRecall, ALineBusy, ALineFree, ATick, AExpiry, BLineBusy, BLineFree, SetForwarding, BTick, BExpiry, DeliverToA, DeliverToB, ReturnToA, ReturnToB}
-use Rattle.agreement.specs.declared.call.Outcome.{Outcome}
-use Rattle.agreement.specs.declared.call.Outcome.TheVariants.{Answered, Denied}
 
 -- both sides, and each channel by its capacity and the messages that wait in it, oldest first
 pub record World : Type 0 where
@@ -45,6 +44,10 @@ pub record Given : Type 0 where
 abbrev pub fresh : Given → World
 fresh g = record { a = a_fresh g.settings_a g.places_a; b = b_fresh g.settings_b g.places_b g.facts; cap_b = g.cap_b; to_b = []; cap_a = g.cap_a; to_a = [] }
 
+-- what a call comes to: its answer, or its denial
+abbrev pub Outcome : Type 0
+Outcome = Result Answer Denial
+
 -- what a call comes to, the pair after it, and the messages that it sends toward B and toward A
 pub record Turn : Type 0 where
   pub outcome : Outcome
@@ -53,7 +56,7 @@ pub record Turn : Type 0 where
   pub sent_a : List Values
 
 abbrev pub refused : World → Denial → Turn
-refused w e = record { outcome = Denied e; world = w; sent_b = []; sent_a = [] }
+refused w e = record { outcome = Err e; world = w; sent_b = []; sent_a = [] }
 
 -- a denial alters nothing
 abbrev pub unless : World → Option Denial → Turn → Turn
@@ -63,7 +66,7 @@ unless w None t = t
 -- a call of A's: what it sends is put at the end of the channel toward B
 abbrev pub by_a : World → ADone → Turn
 by_a w d = record {
-  outcome = Answered d.answer;
+  outcome = Ok d.answer;
   world = record { a = d.side; b = w.b; cap_b = w.cap_b; to_b = w.to_b ++ d.sent; cap_a = w.cap_a; to_a = w.to_a };
   sent_b = d.sent;
   sent_a = [];
@@ -72,7 +75,7 @@ by_a w d = record {
 -- a call of B's: what it sends is put at the end of the channel toward A
 abbrev pub by_b : World → BDone → Turn
 by_b w d = record {
-  outcome = Answered d.answer;
+  outcome = Ok d.answer;
   world = record { a = w.a; b = d.side; cap_b = w.cap_b; to_b = w.to_b; cap_a = w.cap_a; to_a = w.to_a ++ d.sent };
   sent_b = [];
   sent_a = d.sent;

@@ -1,7 +1,5 @@
-use answers::{Answer, Denial};
-
 /// The sixteen calls: those of the originating side, those of the destination side, and those between.
-#[derive(Clone, Copy)]
+#[derive(Clone, Copy, Debug, PartialEq, Eq)]
 pub enum Call {
     /// The user asks to be called back once the destination is free.
     Activate {
@@ -51,11 +49,4 @@ pub enum Call {
     ReturnToA,
     /// The oldest message toward A goes back to B, its sender.
     ReturnToB,
-}
-
-/// What a call comes to: an answer or a denial.
-#[derive(Clone, Copy)]
-pub enum Outcome {
-    Answered(Answer),
-    Denied(Denial),
 }

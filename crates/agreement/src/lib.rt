@@ -7,7 +7,7 @@ ghost use Rattle.agreement.specs.Edges.{Edges};
 
 pub mod call;
 
-pub use call::{Call, Outcome};
+pub use call::Call;
 
 /// Of every fresh pair, whatever its settings, memory and channels, the two sides agree after every prefix of every run.
 pub fn law_holds()

@@ -1,10 +1,11 @@
-ghost use Rattle.std.specs.Prelude.{◌≡◌};
+ghost use Rattle.std.specs.Prelude.{◌≡◌, Some};
 ghost use Rattle.answers.specs.Numbers.{answer_word, answer_transaction, answer_cause};
 
 use crate::cause::Cause;
+use std::fmt;
 
 /// What an accepted call answers, each case with the values that it carries.
-#[derive(Clone, Copy)]
+#[derive(Clone, Copy, PartialEq, Eq, Debug)]
 pub enum Answer {
     Requested { tn: u32 },
     Accepted { tn: u32 },
@@ -24,24 +25,24 @@ pub enum Answer {
 
 impl Answer {
     /// Its word, as the console writes it.
-    pub fn word(self) -> &'static [u8]
+    pub fn word(self) -> &'static str
         ensures { result.now ≡ answer_word self }
     {
         match self {
-            Answer::Requested { .. } => b"requested",
-            Answer::Accepted { .. } => b"accepted",
-            Answer::Recall { .. } => b"recall",
-            Answer::Suspended { .. } => b"suspended",
-            Answer::Kept { .. } => b"kept",
-            Answer::Calling { .. } => b"calling",
-            Answer::Stray { .. } => b"stray",
-            Answer::Nothing { .. } => b"nothing",
-            Answer::Stored { .. } => b"stored",
-            Answer::Rejected { .. } => b"rejected",
-            Answer::Freed { .. } => b"freed",
-            Answer::Resumed { .. } => b"resumed",
-            Answer::Ended { .. } => b"ended",
-            Answer::Done => b"done",
+            Answer::Requested { .. } => "requested",
+            Answer::Accepted { .. } => "accepted",
+            Answer::Recall { .. } => "recall",
+            Answer::Suspended { .. } => "suspended",
+            Answer::Kept { .. } => "kept",
+            Answer::Calling { .. } => "calling",
+            Answer::Stray { .. } => "stray",
+            Answer::Nothing { .. } => "nothing",
+            Answer::Stored { .. } => "stored",
+            Answer::Rejected { .. } => "rejected",
+            Answer::Freed { .. } => "freed",
+            Answer::Resumed { .. } => "resumed",
+            Answer::Ended { .. } => "ended",
+            Answer::Done => "done",
         }
     }
 
@@ -75,5 +76,14 @@ impl Answer {
             Answer::Rejected { cause, .. } | Answer::Ended { cause, .. } => cause,
             _ => Cause::NotGiven,
         }
+    }
+}
+
+/// An answer is told by its word.
+impl fmt::Display for Answer {
+    ghost output = { λ answer. Some (answer_word answer) };
+
+    fn fmt<W: fmt::Write>(&self, f: &mut fmt::Formatter<W>) -> fmt::Result {
+        f.write_str(self.word())
     }
 }

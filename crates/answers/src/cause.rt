@@ -1,8 +1,11 @@
-ghost use Rattle.std.specs.Prelude.{◌≡◌};
+ghost use Rattle.std.specs.Prelude.{◌≡◌, Some};
+ghost use Rattle.std.specs.Fmt.{decimal};
 ghost use Rattle.answers.specs.Numbers.{cause_number, cause_of};
 
+use std::fmt;
+
 /// Why a record ends, or a request is rejected.
-#[derive(Clone, Copy, PartialEq, Eq)]
+#[derive(Clone, Copy, PartialEq, Eq, Debug)]
 pub enum Cause {
     NotGiven = 0,
     T3Over = 1,
@@ -18,18 +21,20 @@ pub enum Cause {
     MessageReturned = 11,
 }
 
-impl Cause {
-    /// Its number, 0 to 11.
-    pub fn number(self) -> u8
-        ensures { result ≡ cause_number self }
-    {
-        self as u8
-    }
+/// Its number, 0 to 11.
+impl From<Cause> for u8 {
+    ghost from_gives = { λ cause number. number ≡ cause_number cause };
 
-    /// The cause that a number tells; one above 11 tells none.
-    pub fn of(number: u8) -> Cause
-        ensures { result ≡ cause_of number }
-    {
+    fn from(cause: Cause) -> u8 {
+        cause as u8
+    }
+}
+
+/// The cause that a number tells; one above 11 tells none.
+impl From<u8> for Cause {
+    ghost from_gives = { λ number cause. cause ≡ cause_of number };
+
+    fn from(number: u8) -> Cause {
         match number {
             1 => Cause::T3Over,
             2 => Cause::T4Over,
@@ -44,5 +49,14 @@ impl Cause {
             11 => Cause::MessageReturned,
             _ => Cause::NotGiven,
         }
+    }
+}
+
+/// A cause is told by its number.
+impl fmt::Display for Cause {
+    ghost output = { λ cause. Some (decimal (cause_number cause)) };
+
+    fn fmt<W: fmt::Write>(&self, f: &mut fmt::Formatter<W>) -> fmt::Result {
+        write!(f, "{}", u8::from(*self))
     }
 }

@@ -1,8 +1,12 @@
-ghost use Rattle.std.specs.Prelude.{◌≡◌};
+ghost use Rattle.std.specs.Prelude.{◌≡◌, Some};
+ghost use Rattle.std.specs.Fmt.{decimal};
 ghost use Rattle.answers.specs.Numbers.{denial_number};
 
+use std::error::Error;
+use std::fmt;
+
 /// Why a call is denied. Of several that apply, the lowest number decides.
-#[derive(Clone, Copy, PartialEq, Eq)]
+#[derive(Clone, Copy, PartialEq, Eq, Debug)]
 pub enum Denial {
     /// A setting or given memory is out of range.
     OutOfRange = 1,
@@ -36,11 +40,22 @@ pub enum Denial {
     NotALine = 15,
 }
 
-impl Denial {
-    /// Its number, 1 to 15.
-    pub fn number(self) -> u8
-        ensures { result ≡ denial_number self }
-    {
-        self as u8
+/// Its number, 1 to 15.
+impl From<Denial> for u8 {
+    ghost from_gives = { λ denial number. number ≡ denial_number denial };
+
+    fn from(denial: Denial) -> u8 {
+        denial as u8
     }
 }
+
+/// A denial is told by its number.
+impl fmt::Display for Denial {
+    ghost output = { λ denial. Some (decimal (denial_number denial)) };
+
+    fn fmt<W: fmt::Write>(&self, f: &mut fmt::Formatter<W>) -> fmt::Result {
+        write!(f, "{}", u8::from(*self))
+    }
+}
+
+impl Error for Denial {}

@@ -10,4 +10,4 @@ pub mod range;
 pub use answer::Answer;
 pub use cause::Cause;
 pub use denial::Denial;
-pub use range::is_within;
+pub use range::{is_limited, is_placed, is_sized, is_switched, is_timed, is_within};

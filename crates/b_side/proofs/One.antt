@@ -1,17 +1,17 @@
 -- One place toward A suffices: a call of B's sends at most one message, and a return none.
-use Rattle.std.proofs.Common.{◌≡◌, ℕ, ◌≤◌, Bool, true, false, cond, [], ◌∷◌, length, Some, None, Option, refl, arith}
+use Rattle.std.proofs.Common.{◌≡◌, ℕ, ◌≤◌, Bool, true, false, ◌||◌, [], ◌∷◌, length, Some, None, Option, refl, arith}
 use Rattle.answers.specs.declared.cause.Cause.{Cause}
-use Rattle.answers.specs.declared.cause.Cause.TheVariants.{T7Over, T9Over}
-use Rattle.answers.specs.declared.answer.Answer.TheVariants.{Ended as ended}
-use Rattle.tables.specs.Tables.{removed, first_by}
+use Rattle.answers.specs.declared.cause.Cause.TheVariants.{T7Over, T9Over, MessageReturned}
+use Rattle.std.proofs.lemmas.Bool.{cond_both}
+use Rattle.tables.specs.Tables.{first_by}
 use Rattle.messages.specs.declared.kind.Kind.{Kind}
 use Rattle.messages.specs.declared.kind.Kind.TheVariants.{Request as Q, Suspend as S, Resume as M, Call as C, Cancel as X, Result as R, Error as E, RemoteUserFree as F, CallDone as D, CallBusy as B}
 use Rattle.messages.specs.declared.values.Values.{Values}
 use Rattle.b_side.specs.declared.record.BState.{BState}
 use Rattle.b_side.specs.declared.record.BState.TheVariants.{Queued, Suspended, Recalling}
 use Rattle.b_side.specs.declared.record.BRecord.{BRecord}
-use Rattle.messages.specs.Sent.{cancelling}
-use Rattle.b_side.specs.Rules.{BModel, BEffect, does, b_due, due7, stored_as, b_expiring, b_expiring_at, b_expiring_one, recalling_first, recalling_one, guard_over, queued_at, b_receiving, b_receiving_at, b_returning, b_returning_at, on_record, on_none, on_new, objection, on_suspend, on_resume, on_call, called_at, found_busy, on_returned, line}
+use Rattle.messages.specs.Sent.{cancelling, same_kind}
+use Rattle.b_side.specs.Rules.{BModel, BEffect, finishes, ignores, b_due, due7, stored_as, b_expiring, b_expiring_at, b_expiring_one, recalling_first, recalling_one, guard_over, queued_at, b_receiving, b_receiving_at, b_returning, b_returning_at, on_record, on_none, on_new, objection, on_suspend, on_resume, on_call, called_at, found_busy, on_returned, line}
 
 abbrev One : BEffect → Type 0
 One e = length e.sent ≤ 1
@@ -57,32 +57,14 @@ module _ (s : BModel) where
     heard B = omega arith
 
     comes : (k : Kind) → NoneSent (on_returned s r k)
-    comes Q = refl
-    comes S = refl
-    comes M = refl
-    comes C = refl
-    comes X = refl
-    comes R = refl
-    comes E = refl
-    comes F = refl
-    comes D = refl
-    comes B = refl
+    comes k = cond_both (same_kind k R || same_kind k F) (finishes s r.tn MessageReturned []) (ignores s r.tn) NoneSent (λ _. refl) (λ _. refl)
 
   new : (m : Values) (o : Option Cause) → One (on_new s m o)
   new m None = omega arith
   new m (Some c) = omega arith
 
   unheard : (m : Values) (k : Kind) → One (on_none s m k)
-  unheard m Q = new m (objection s m)
-  unheard m S = omega arith
-  unheard m M = omega arith
-  unheard m C = omega arith
-  unheard m X = omega arith
-  unheard m R = omega arith
-  unheard m E = omega arith
-  unheard m F = omega arith
-  unheard m D = omega arith
-  unheard m B = omega arith
+  unheard m k = cond_both (same_kind k Q) (on_new s m (objection s m)) (ignores s m.tn) One (λ _. new m (objection s m)) (λ _. omega arith)
 
   at : (m : Values) (o : Option BRecord) → One (b_receiving_at s m o)
   at m None = unheard m m.kind
@@ -99,11 +81,7 @@ module _ (s : BModel) where
   none_returned m = back m (stored_as m.tn s)
 
   over : (r : BRecord) → One (b_expiring_one s r)
-  over r = go (due7 r)
-    where
-      go : (b : Bool) → length (cond b (does s (ended r.tn T7Over) (removed r.tn) (cancelling r.tn 3 ∷ [])) (does s (ended r.tn T9Over) (removed r.tn) (cancelling r.tn 4 ∷ []))).sent ≤ 1
-      go true = omega arith
-      go false = omega arith
+  over r = cond_both (due7 r) (finishes s r.tn T7Over (cancelling r.tn 3 ∷ [])) (finishes s r.tn T9Over (cancelling r.tn 4 ∷ [])) One (λ _. omega arith) (λ _. omega arith)
 
   recalls : (o : Option BRecord) → One (recalling_one s o)
   recalls None = omega arith

@@ -1,7 +1,7 @@
 use crate::forwarding::Forwarding;
 
 /// The facts of a destination's line, in memory that the exchange gives.
-#[derive(Clone, Copy)]
+#[derive(Clone, Copy, Debug, Default, PartialEq, Eq)]
 pub struct LineFacts {
     pub busy: bool,
     pub forwarding: Forwarding,

@@ -4,7 +4,7 @@ use messages::Service;
 use waiting_line::{Record, Timed};
 
 /// What a request of the destination side is doing.
-#[derive(Clone, Copy, PartialEq, Eq)]
+#[derive(Clone, Copy, Debug, PartialEq, Eq)]
 pub enum BState {
     /// Stored, and waiting for its turn.
     Queued,
@@ -15,7 +15,7 @@ pub enum BState {
 }
 
 /// A stored request. A stopped timer holds 0.
-#[derive(Clone, Copy)]
+#[derive(Clone, Copy, Debug, PartialEq, Eq)]
 pub struct BRecord {
     pub tn: u32,
     pub destination: u8,

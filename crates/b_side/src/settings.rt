@@ -2,10 +2,10 @@ ghost use Rattle.std.specs.Prelude.{◌≡◌};
 ghost use Rattle.answers.specs.Rows.{examined};
 ghost use Rattle.b_side.specs.Ranges.{b_in_range};
 
-use answers::{Denial, is_within};
+use answers::{Denial, is_limited, is_placed, is_switched, is_timed, is_within};
 
 /// The settings of the destination side, as given.
-#[derive(Clone, Copy)]
+#[derive(Clone, Copy, Debug, PartialEq, Eq)]
 pub struct BSettings {
     /// Ticks that a stored request stands.
     pub t7: u32,
@@ -25,18 +25,13 @@ pub struct BSettings {
 pub fn examine(settings: &BSettings, places: usize, facts: usize) -> Result<(), Denial>
     ensures { result ≡ examined (b_in_range settings.now places facts) }
 {
-    let fits = is_within(1, 60000, settings.t7)
-        && is_within(1, 60000, settings.t8)
-        && is_within(1, 60000, settings.t9)
-        && is_within(1, 5, settings.lb)
+    let fits = is_timed(settings.t7)
+        && is_timed(settings.t8)
+        && is_timed(settings.t9)
+        && is_limited(settings.lb)
         && is_within(1, 64, settings.n)
-        && settings.rb <= 1
-        && 1 <= places
-        && places <= 320
+        && is_switched(settings.rb)
+        && is_placed(places)
         && facts == settings.n as usize;
-    if fits {
-        Ok(())
-    } else {
-        Err(Denial::OutOfRange)
-    }
+    fits.then_some(()).ok_or(Denial::OutOfRange)
 }

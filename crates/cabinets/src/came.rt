@@ -1,32 +1,39 @@
-ghost use Rattle.std.specs.Prelude.{◌≡◌, ◌-◌, ◌&&◌, length, ◌==◌};
+ghost use Rattle.std.specs.Prelude.{◌≡◌, ◌-◌, length, Some};
+ghost use Rattle.cabinets.specs.Page.{came_text};
 
+use answers::Denial;
 use channels::Channel;
+use std::fmt;
 
-/// What a call on a channel came to: the denial's number, or 0, and what waits and is free after it.
-#[derive(Clone, Copy)]
+/// What a call on a channel came to: its answer, and what waits and is free after it.
+#[derive(Clone, Copy, Debug, PartialEq, Eq)]
 pub struct Came {
-    pub denial: u8,
+    pub answer: Result<(), Denial>,
     pub waiting: usize,
     pub free: usize,
 }
 
-/// What a call with this denial left of a channel.
-pub fn left_by<C: Channel>(denial: u8, channel: &C) -> Came
-    ensures denial { result.denial ≡ denial }
+/// What a call with this answer left of a channel.
+pub fn left_by<C: Channel>(answer: Result<(), Denial>, channel: &C) -> Came
+    ensures answer { result.answer ≡ answer }
     ensures waiting { result.waiting ≡ length (C.Channel.waiting channel.now) }
     ensures free { result.free ≡ C.Channel.capacity channel.now - length (C.Channel.waiting channel.now) }
 {
-    let free = channel.free();
     Came {
-        denial,
-        waiting: channel.capacity() - free,
-        free,
+        answer,
+        waiting: channel.len(),
+        free: channel.free(),
     }
 }
 
-/// Whether two channels came to the same.
-pub fn is_alike(one: Came, other: Came) -> bool
-    ensures { result ≡ (one.denial == other.denial && (one.waiting == other.waiting && one.free == other.free)) }
-{
-    one.denial == other.denial && one.waiting == other.waiting && one.free == other.free
+impl fmt::Display for Came {
+    ghost output = { λ came. Some (came_text came.answer came.waiting came.free) };
+
+    fn fmt<W: fmt::Write>(&self, f: &mut fmt::Formatter<W>) -> fmt::Result {
+        match self.answer {
+            Ok(()) => write!(f, "done")?,
+            Err(denial) => write!(f, "denied with {denial}")?,
+        }
+        write!(f, ", {} waiting, {} free", self.waiting, self.free)
+    }
 }

@@ -1,26 +1,33 @@
--- The search for the end of the first line: its step, and what it tells where it ends.
-use Rattle.std.proofs.Common.{◌≡◌, ℕ, ◌+◌, ◌<◌, ◌≤◌, cond, eqb, List, [], ◌∷◌, ◌++◌, length, get_or, take, drop, sym, ap, ◌∙◌}
-use Rattle.std.proofs.lemmas.List.{drop_more, drop_all, take_all, take_more, append_assoc, append-nil}
-use Rattle.std.proofs.lemmas.Bool.{eq-eqb, ne_eqb, cond-true, cond-false}
+-- The first part of a split that keeps each byte 10 is the first line.
+use Rattle.std.proofs.Common.{◌≡◌, ℕ, suc, zero, ◌+◌, ◌<◌, min, Bool, cond, eqb, List, [], ◌∷◌, ◌++◌, length, take, Some, None, Option, unwrap_or, Bor, sym, refl, ap, ◌∙◌, add-one, arith}
+use Rattle.std.proofs.lemmas.Grind.{common_steps}
+use Rattle.std.specs.List.{IsFirstMatchOrLen}
+use Rattle.std.specs.Option.{MatchOption}
+use Rattle.std.specs.Fn.{ComputesKey}
+use denote.Param.Members.{Mut}
 use Rattle.channels.specs.Lined.{first_line}
 
--- no byte below i ends the line, so that what is left from i on tells where it ends
-abbrev pub Sought : List ℕ → ℕ → Type 0
-Sought bs i = take i bs ++ first_line (drop i bs) ≡ first_line bs
+-- the byte ends a line
+abbrev pub ends : ℕ → Bool
+ends b = eqb b 10
 
-module _ (bs : List ℕ) (i : ℕ) (sought : Sought bs i) where
-  pub end_none : length bs ≤ i → bs ≡ first_line bs
-  end_none past = sym (ap (λ l. take i bs ++ first_line l) (drop_all i bs past) ∙ append-nil (take i bs) ∙ take_all i bs past) ∙ sought
+line_taken : (bs : List ℕ) (i : ℕ) → IsFirstMatchOrLen ends bs i → take (suc i) bs ≡ first_line bs
+line_taken [] i is = refl
+line_taken (b ∷ bs) zero is = ap (λ t. b ∷ cond t [] (first_line bs)) (sym (is.1 (omega arith) 0))
+line_taken (b ∷ bs) (suc i) is =
+    ap (λ l. b ∷ l) (line_taken bs i ((λ k d low here. is.0 (suc k) d (omega arith) (omega arith)), λ here d. is.1 (omega arith) d))
+    ∙ ap (λ t. b ∷ cond t [] (first_line bs)) (sym (is.0 0 0 (omega arith) (omega arith)))
 
-  module _ (here : i < length bs) where
-    opened : take i bs ++ (get_or bs i 0 ∷ cond (eqb (get_or bs i 0) 10) [] (first_line (drop (i + 1) bs))) ≡ first_line bs
-    opened = sym (ap (λ l. take i bs ++ first_line l) (drop_more bs i 0 here)) ∙ sought
+part_taken : (bs part rest : List ℕ) (n : ℕ) → bs ≡ part ++ rest → length part ≡ min n (length bs) → part ≡ take n bs
+part_taken bs part rest n cut size = grind (arith, common_steps)
 
-    pub end_here : get_or bs i 0 ≡ 10 → take (i + 1) bs ≡ first_line bs
-    end_here e = take_more bs i 0 here ∙ sym (ap (λ l. take i bs ++ (get_or bs i 0 ∷ l)) (cond-true (eqb (get_or bs i 0) 10) [] (first_line (drop (i + 1) bs)) (eq-eqb _ _ e))) ∙ opened
-
-    pub end_later : (get_or bs i 0 ≡ 10 → ⊥) → Sought bs (i + 1)
-    end_later e =
-        let tail = first_line (drop (i + 1) bs) in
-        ap (λ l. l ++ tail) (take_more bs i 0 here) ∙ append_assoc (take i bs) (get_or bs i 0 ∷ []) tail
-        ∙ sym (ap (λ l. take i bs ++ (get_or bs i 0 ∷ l)) (cond-false (eqb (get_or bs i 0) 10) [] tail (ne_eqb _ _ e))) ∙ opened
+-- bytes with no part are none, and else a part is the first line
+pub part_or_all : {F : Type 0} (Same : Type 0) (g : Mut F (Bor ℕ × Unit {0}) Bool) (f f' : F) (all : Bor (List ℕ)) (bs rest : List ℕ) (part : Option (Bor (List ℕ))) → bs ≡ all.now → ComputesKey g ends f
+    → MatchOption part ((length bs ≡ 0) × Same)
+    (λ x. (bs ≡ x.now ++ rest) × ((i : ℕ) × (length x.now ≡ min (i + 1) (length bs)) × ((p : ℕ → Bool) → ComputesKey g p f → ComputesKey g p f' × IsFirstMatchOrLen p bs i)) × (0 < length bs))
+    → (unwrap_or part all).now ≡ first_line all.now
+part_or_all Same g f f' all [] rest None are computes none = sym are ∙ ap first_line are
+part_or_all Same g f f' all (b ∷ bs) rest None are computes none = absurd (omega (arith, none.0))
+part_or_all Same g f f' all bs rest (Some x) are computes some =
+    let i = some.1.0 in
+    part_taken bs x.now rest (i + 1) some.0 some.1.1 ∙ ap (λ n. take n bs) (add-one i) ∙ line_taken bs i (some.1.2 ends computes).1 ∙ ap first_line are

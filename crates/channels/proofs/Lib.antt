@@ -1,6 +1,5 @@
 pub mod Carries
 pub mod FirstLines
-pub mod Lists
 pub mod OneLine
 pub mod Posts
 pub mod Wired

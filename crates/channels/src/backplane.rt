@@ -1,8 +1,8 @@
-ghost use Rattle.std.specs.Prelude.{◌≡◌, [], length, slice_set};
+ghost use Rattle.std.specs.Prelude.{◌≡◌, [], length};
 ghost use Rattle.messages.specs.Made.{said};
 ghost use Rattle.waiting_line.specs.Gaps.{over};
 ghost use Rattle.waiting_line.specs.Lines.{put_answer, put_left};
-ghost use Rattle.channels.specs.Meaning.{taken, rest};
+ghost use Rattle.channels.specs.Meaning.{taken, rest, Leaves};
 ghost use Rattle.channels.specs.Backplanes.{records, back_memory, back_capacity, back_waiting, back_fits, back_lawful};
 
 use crate::channel::Channel;
@@ -42,30 +42,25 @@ impl<'m> Channel for Backplane<'m> {
         self.line.places()
     }
 
-    fn look(&self) -> Option<Message> {
-        match self.line.read(0) {
-            Ok(message) => Some(message),
-            Err(_) => None,
-        }
+    fn len(&self) -> usize {
+        self.line.len()
     }
 
-    fn free(&self) -> usize {
-        self.capacity() - self.line.len()
+    fn look(&self) -> Option<Message> {
+        self.line.read(0).ok()
     }
 
     fn put(&mut self, message: Message) -> Result<(), Denial>
         ensures answer { result ≡ put_answer (back_capacity self.old) (back_waiting self.old) }
-        ensures waiting { back_waiting self.new ≡ put_left (back_capacity self.old) (back_waiting self.old) message.values }
-        ensures capacity { back_capacity self.new ≡ back_capacity self.old }
-        ensures memory { back_memory self.new ≡ slice_set (back_memory self.old) (length (records self.old)) message }
+        ensures leaves { Leaves back_capacity back_waiting self.old (put_left (back_capacity self.old) (back_waiting self.old) message.values) self.new }
+        ensures memory { back_memory self.new ≡ over (put_left (back_capacity self.old) (records self.old) message) (back_memory self.old) }
     {
         self.line.put(message)
     }
 
     fn take(&mut self) -> Result<Message, Denial>
         ensures answer { said result ≡ taken (back_waiting self.old) }
-        ensures waiting { back_waiting self.new ≡ rest (back_waiting self.old) }
-        ensures capacity { back_capacity self.new ≡ back_capacity self.old }
+        ensures leaves { Leaves back_capacity back_waiting self.old (rest (back_waiting self.old)) self.new }
         ensures memory { back_memory self.new ≡ over (rest (records self.old)) (back_memory self.old) }
     {
         let message = self.line.read(0)?;

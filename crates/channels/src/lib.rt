@@ -6,10 +6,12 @@ pub mod backplane;
 pub mod carriage;
 pub mod channel;
 pub mod posting;
+pub mod room;
 pub mod wire;
 
 pub use backplane::Backplane;
 pub use carriage::carry;
 pub use channel::Channel;
 pub use posting::post;
+pub use room::{check_room, check_sized};
 pub use wire::Wire;

@@ -1,18 +1,14 @@
-ghost use Rattle.std.specs.Prelude.{◌≡◌};
-ghost use Rattle.channels.specs.Meaning.{posted};
+ghost use Rattle.std.specs.Prelude.{[], ◌∷◌};
+ghost use Rattle.channels.specs.Meaning.{Takes};
 
 use crate::channel::Channel;
 use messages::{Message, Values};
 
 /// Puts the message of these values at the end, if it is lawful and a place is free.
 pub fn post<C: Channel>(to: &mut C, values: Values)
-    ensures waiting { C.Channel.waiting to.new ≡ posted (C.Channel.capacity to.old) (C.Channel.waiting to.old) values }
-    ensures capacity { C.Channel.capacity to.new ≡ C.Channel.capacity to.old }
+    ensures { Takes C.Channel.capacity C.Channel.waiting to.old (values ∷ []) to.new }
 {
-    match Message::new(values) {
-        Ok(message) => {
-            let _ = to.put(message);
-        }
-        Err(_) => {}
+    if let Ok(message) = Message::new(values) {
+        let _ = to.put(message);
     }
 }

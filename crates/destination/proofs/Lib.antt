@@ -3,4 +3,3 @@ pub mod Along
 pub mod Changes
 pub mod Ends
 pub mod Dues
-pub mod Receives

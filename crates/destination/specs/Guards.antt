@@ -1,14 +1,19 @@
--- What a note of the guards tells: for each line whether T8 runs there, as the rules have it.
--- The calls take one note before they change anything and one after.
-use Rattle.std.specs.Prelude.{◌≡◌, ℕ, ◌<◌, Bool, false, ◌&&◌, List, length, ◌==◌, slice_index_or}
+-- What the notes of the guards tell: which records each destination has, and where T8 runs, as the rules have it.
+-- The calls note where T8 runs before they change anything and after.
+use Rattle.std.specs.Prelude.{◌≡◌, ℕ, ◌<◌, Bool, false, List, length, slice_index_or}
+use Rattle.waiting_line.specs.Searches.{some}
 use Rattle.b_side.specs.declared.record.BRecord.{BRecord}
-use Rattle.b_side.specs.declared.record.BState.{BState}
 use Rattle.b_side.specs.declared.line.LineFacts.{LineFacts}
-use Rattle.b_side.specs.Rules.{is, idle, guarded}
+use Rattle.b_side.specs.Rules.{idle, queued_at, recalling_at, guarded}
+use Rattle.destination.specs.declared.side.guards.Standing.{Standing}
 
--- a record of destination b is in the state
-abbrev pub stands_at : BState → ℕ → BRecord → Bool
-stands_at state b r = r.destination == b && is state r.state
+-- a destination with no records
+abbrev pub none_stand : Standing
+none_stand = record { queued = false; recalling = false }
+
+-- the records that stand at destination b
+abbrev pub standing_at : List BRecord → ℕ → Standing
+standing_at rs b = record { queued = some (queued_at b) rs; recalling = some (recalling_at b) rs }
 
 -- the guard of line b runs
 abbrev pub runs_at : List BRecord → List LineFacts → ℕ → Bool

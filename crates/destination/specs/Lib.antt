@@ -1,5 +1,4 @@
 pub mod Calls
 pub mod Sides
-pub mod Steps
 pub mod Dues
 pub mod Guards

@@ -3,8 +3,6 @@
 #![tactic(auto)]
 
 mod due;
-mod guards;
 pub mod side;
-mod step;
 
 pub use side::BSide;

@@ -1,4 +1,4 @@
 pub mod Agree
 pub mod Decimal
-pub mod Runs
 pub mod Trip
+pub mod Results

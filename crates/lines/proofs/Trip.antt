@@ -4,10 +4,9 @@ use Rattle.std.proofs.Common.{◌≡◌, ℕ, suc, ◌+◌, ◌-◌, ◌^◌, �
 use Rattle.std.specs.Char.{is_ascii_digit}
 use Rattle.std.proofs.lemmas.List.{drop_all, drop_at, drop-drop, drop_more, get_or-drop, get_or_past, length-drop, take_at}
 use Rattle.std.proofs.lemmas.Bool.Decides.{nat_tests}
-use Rattle.lines.specs.declared.fault.LineFault.{LineFault}
 use Rattle.lines.specs.declared.number.Numeral.{Numeral}
 use Rattle.lines.specs.declared.number.NumberFault.{NumberFault}
-use Rattle.lines.specs.Faults.{keyed, line_fault}
+use Rattle.lines.specs.Faults.{LineFault, keyed, line_fault}
 use Rattle.lines.specs.Numbers.{numeral_in, numeral_at}
 use Rattle.lines.specs.Readings.{agree, text_at, letter_at, numbered, number_at, field_at, end_at}
 use Rattle.lines.specs.Results.{and_then, on_ok, on_err}

@@ -5,9 +5,12 @@ use Rattle.lines.specs.declared.number.NumberFault.{NumberFault}
 use Rattle.lines.specs.declared.fault.Fault.{Fault}
 use Rattle.lines.specs.declared.fault.Fault.TheVariants.{Text, Number, End}
 use Rattle.lines.specs.declared.fault.Keyed.{Keyed}
-use Rattle.lines.specs.declared.fault.LineFault.{LineFault}
 use Rattle.lines.specs.Numbers.{number_cause}
 use Rattle.lines.specs.Results.{on_err}
+
+-- a line's fault, with its key
+abbrev pub LineFault : Type 0 → Type 0
+LineFault K = Keyed K Fault
 
 abbrev pub fault_cause : Fault → ℕ
 fault_cause (Text at) = 1
@@ -25,8 +28,8 @@ text_fault key at = record { key = key; fault = Text at }
 abbrev pub end_fault : {K : Type 0} → K → ℕ → LineFault K
 end_fault key at = record { key = key; fault = End at }
 
-abbrev pub keyed : {K T : Type 0} → K → Result T NumberFault → Result T (Keyed K)
+abbrev pub keyed : {K T : Type 0} → K → Result T NumberFault → Result T (Keyed K NumberFault)
 keyed key r = on_err (λ fault. record { key = key; fault = fault }) r
 
-abbrev pub line_fault : {K : Type 0} → Keyed K → LineFault K
+abbrev pub line_fault : {K : Type 0} → Keyed K NumberFault → LineFault K
 line_fault k = record { key = k.key; fault = Number k.fault }

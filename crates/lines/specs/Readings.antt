@@ -1,19 +1,17 @@
 -- How a line is read from a place on: a text, a letter, a number, a field, the line end. Each reading gives what it
 -- found and the place after it, or the fault with its key; `Passed` and `Handed` tie a reader to its reading.
-use Rattle.std.specs.Prelude.{◌≡◌, ℕ, suc, ◌+◌, ◌-◌, cond, List, [], ◌∷◌, length, take, drop, Ok, Err, Result, ◌==◌, nat_lt, slice_index}
-use Rattle.lines.specs.declared.fault.LineFault.{LineFault}
+use Rattle.std.specs.Prelude.{◌≡◌, ℕ, ◌+◌, ◌-◌, cond, List, [], ◌∷◌, length, take, drop, Ok, Err, Result, ◌==◌, nat_lt, slice_index}
+use Rattle.std.specs.List.{prefix_len, zip}
 use Rattle.lines.specs.declared.number.Numeral.{Numeral}
 use Rattle.lines.specs.declared.reader.Reader.{Reader}
-use Rattle.lines.specs.Faults.{text_fault, end_fault, keyed, line_fault}
+use Rattle.lines.specs.Faults.{LineFault, text_fault, end_fault, keyed, line_fault}
 use Rattle.lines.specs.Numbers.{numeral_at}
 use Rattle.lines.specs.Results.{and_then, on_ok, on_err}
 use Rattle.lines.specs.Tokens.{Seen, word, number}
 
 -- how many bytes of the text stand in front of the rest
 abbrev pub agree : List ℕ → List ℕ → ℕ
-agree [] rest = 0
-agree (c ∷ text) [] = 0
-agree (c ∷ text) (b ∷ rest) = cond (c == b) (suc (agree text rest)) 0
+agree text rest = prefix_len (λ pair. pair.0 == pair.1) (zip text rest)
 
 -- the text stands at `at`, and the place after it is answered; else the first byte that differs is at fault
 unfoldable pub text_at : {K : Type 0} → K → List ℕ → ℕ → List ℕ → Result ℕ (LineFault K)
@@ -46,12 +44,12 @@ end_at key at line =
 abbrev pub line_in : Reader → List ℕ
 line_in reader = reader.line.now
 
--- a reader passes a text: it stands after it then, and at a fault where it stood
+-- a reader passes a text: it stands after it then, in the same line; at a fault it is as it was
 abbrev pub Passed : {U E : Type 0} → (ℕ → List ℕ → Result ℕ E) → Reader → Result U E → Reader → Type 0
-Passed reading before (Ok u) after = reading before.at (line_in before) ≡ Ok after.at
-Passed reading before (Err e) after = (reading before.at (line_in before) ≡ Err e) × (after.at ≡ before.at)
+Passed reading before (Ok u) after = (reading before.at (line_in before) ≡ Ok after.at) × (line_in after ≡ line_in before)
+Passed reading before (Err e) after = (reading before.at (line_in before) ≡ Err e) × (after ≡ before)
 
--- a reader hands out what the reading finds: it stands after that then, and at a fault where it stood
+-- a reader hands out what the reading finds: it stands after that then, in the same line; at a fault it is as it was
 abbrev pub Handed : {T E : Type 0} → (ℕ → List ℕ → Result (T × ℕ) E) → Reader → Result T E → Reader → Type 0
-Handed reading before (Ok x) after = reading before.at (line_in before) ≡ Ok (x, after.at)
-Handed reading before (Err e) after = (reading before.at (line_in before) ≡ Err e) × (after.at ≡ before.at)
+Handed reading before (Ok x) after = (reading before.at (line_in before) ≡ Ok (x, after.at)) × (line_in after ≡ line_in before)
+Handed reading before (Err e) after = (reading before.at (line_in before) ≡ Err e) × (after ≡ before)

@@ -1,10 +1,11 @@
-ghost use Rattle.std.specs.Prelude.{◌≡◌};
+ghost use Rattle.std.specs.Prelude.{◌≡◌, Result};
+ghost use Rattle.lines.specs.declared.number.NumberFault.{NumberFault};
 ghost use Rattle.lines.specs.Faults.{fault_cause, fault_place, keyed, line_fault};
 
 use crate::number::NumberFault;
 
 /// What is wrong with a line, and where.
-#[derive(Clone, Copy)]
+#[derive(Clone, Copy, Debug, PartialEq, Eq)]
 pub enum Fault {
     /// Another key, letter, word or separator stands at the byte `at`.
     Text { at: usize },
@@ -21,7 +22,7 @@ impl Fault {
     {
         match self {
             Fault::Text { .. } => 1,
-            Fault::Number(fault) => fault.cause.number(),
+            Fault::Number(fault) => fault.cause.into(),
             Fault::End { .. } => 4,
         }
     }
@@ -38,24 +39,20 @@ impl Fault {
 }
 
 /// A fault with the key of the field that it was found in.
-#[derive(Clone, Copy)]
-pub struct LineFault<K> {
+#[derive(Clone, Copy, Debug, PartialEq, Eq)]
+pub struct Keyed<K, F> {
     pub key: K,
-    pub fault: Fault,
+    pub fault: F,
 }
 
-/// A number's fault with the key that the number stands under.
-#[derive(Clone, Copy)]
-pub struct Keyed<K> {
-    pub key: K,
-    pub fault: NumberFault,
-}
+/// A line's fault, with its key.
+pub type LineFault<K> = Keyed<K, Fault>;
 
-impl<K: Drop> From<Keyed<K>> for LineFault<K> {
+impl<K: Drop> From<Keyed<K, NumberFault>> for LineFault<K> {
     ghost from_gives = { λ k r. r ≡ line_fault k };
 
-    fn from(keyed: Keyed<K>) -> LineFault<K> {
-        LineFault {
+    fn from(keyed: Keyed<K, NumberFault>) -> LineFault<K> {
+        Keyed {
             key: keyed.key,
             fault: Fault::Number(keyed.fault),
         }
@@ -64,17 +61,17 @@ impl<K: Drop> From<Keyed<K>> for LineFault<K> {
 
 /// Puts the key of its field beside a number's fault.
 pub trait Under<T> {
+    ghost outcome: { Self → Result T NumberFault };
+
     /// The same result, with the key beside a fault.
-    fn under<K: Drop>(self, key: K) -> Result<T, Keyed<K>>;
+    fn under<K: Drop>(self, key: K) -> Result<T, Keyed<K, NumberFault>>
+        ensures { result ≡ keyed key (Self.Under.outcome self) };
 }
 
 impl<T> Under<T> for Result<T, NumberFault> {
-    fn under<K: Drop>(self, key: K) -> Result<T, Keyed<K>>
-        ensures { result ≡ keyed key self }
-    {
-        match self {
-            Ok(value) => Ok(value),
-            Err(fault) => Err(Keyed { key, fault }),
-        }
+    ghost outcome = { λ r. r };
+
+    fn under<K: Drop>(self, key: K) -> Result<T, Keyed<K, NumberFault>> {
+        self.map_err(|fault| Keyed { key, fault })
     }
 }

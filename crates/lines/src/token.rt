@@ -2,7 +2,7 @@ ghost use Rattle.std.specs.Prelude.{◌≡◌};
 ghost use Rattle.lines.specs.Tokens.{seen, place_in, part_in, value_in, first_in};
 
 /// A part of a line, with the byte at which it begins.
-#[derive(Clone, Copy)]
+#[derive(Clone, Copy, Debug, PartialEq, Eq)]
 pub enum Token<'a> {
     Word {
         text: &'a [u8],
@@ -49,9 +49,6 @@ impl<'a> Token<'a> {
     pub fn first(self) -> u8
         ensures { result ≡ first_in (seen self.entry) }
     {
-        match self.part().first() {
-            Some(byte) => *byte,
-            None => 0,
-        }
+        self.part().first().copied().unwrap_or(0)
     }
 }

@@ -1,11 +1,13 @@
 -- Reading a message's line gives the message back, and whatever reads as a message is that message's line.
 use Rattle.std.proofs.Common.{◌≡◌, ℕ, ◌+◌, Bool, true, false, cond, eqb, List, [], ◌∷◌, ◌++◌, length, drop, Some, None, Ok, Err, codes, decimal, Option, Result, sym, refl, ap, ◌∙◌, arith}
 use Rattle.std.proofs.lemmas.Bool.Decides.{nat_tests}
-use Rattle.lines.specs.declared.fault.LineFault.{LineFault}
+use Rattle.std.specs.Option.{ok_or}
+use Rattle.lines.specs.Faults.{LineFault}
 use Rattle.lines.specs.Results.{on_err}
-use Rattle.lines.specs.Tokens.{Seen, word, first_in, place_in, value_in}
+use Rattle.lines.specs.Tokens.{Seen, word, first_in, value_in}
 use Rattle.lines.proofs.Trip.{then_back, then_in, ok_same, text_to, text_from, letter_to, letter_from, field_to, field_from, end_to, end_from}
 use Rattle.messages.specs.declared.kind.Kind.{Kind}
+use Rattle.messages.specs.declared.kind.UnknownLetter.{UnknownLetter}
 use Rattle.messages.specs.declared.kind.Kind.TheVariants.{Request, Suspend, Resume, Call, Cancel, Result as ResultKind, Error, RemoteUserFree, CallDone, CallBusy}
 use Rattle.messages.specs.declared.values.Values.{Values}
 use Rattle.messages.specs.declared.wire.key.Key.{Key}
@@ -15,7 +17,7 @@ use Rattle.messages.specs.declared.wire.unread.Unread.TheVariants.{NotLawful, No
 use Rattle.messages.specs.Kinds.{letter_of, kind_of}
 use Rattle.messages.specs.Lawful.{is_lawful}
 use Rattle.messages.specs.Wire.{key_text, key_most, line_of}
-use Rattle.messages.specs.Parts.{Shown, kind_or, kind_at, parts_of, reading_of}
+use Rattle.messages.specs.Parts.{Shown, kind_at, parts_of, reading_of}
 use Rattle.messages.specs.Trip.{RoundTrip}
 use Rattle.messages.proofs.Bounds.{bounds}
 use Rattle.messages.proofs.Short.{line_short}
@@ -43,9 +45,9 @@ letter_step b n here later k letter go h =
       | false ↦ λ t e. go e
     ] refl h
 
-kind_some : (o : Option Kind) (at : ℕ) (k : Kind) → kind_or o at ≡ Ok k → o ≡ Some k
-kind_some (Some k') at k h = ap (λ x. Some x) (ok_same k' k h)
-kind_some None at k h = absurd (let z : ◌≡◌ {A = ℕ} 0 1 = cc in omega arith)
+kind_some : (o : Option Kind) (e : UnknownLetter) (f : UnknownLetter → LineFault Key) (k : Kind) → on_err f (ok_or o e) ≡ Ok k → o ≡ Some k
+kind_some (Some k') e f k h = ap (λ x. Some x) (ok_same k' k h)
+kind_some None e f k h = absurd (let z : ◌≡◌ {A = ℕ} 0 1 = cc in omega arith)
 
 kind_from : (letter : Seen) (k : Kind) → kind_at letter ≡ Ok k → first_in letter ≡ letter_of k
 unfolding kind_at
@@ -60,7 +62,7 @@ kind_from letter k h =
     (letter_step b 69 Error _ k refl
     (letter_step b 70 RemoteUserFree _ k refl
     (letter_step b 68 CallDone _ k refl
-    (letter_step b 66 CallBusy None k refl (λ e. absurd (let z : ◌≡◌ {A = ℕ} 0 1 = cc in omega arith))))))))))) (kind_some (kind_of b) (place_in letter) k h)
+    (letter_step b 66 CallBusy None k refl (λ e. absurd (let z : ◌≡◌ {A = ℕ} 0 1 = cc in omega arith))))))))))) (kind_some (kind_of b) _ _ k h)
 
 -- the place after a key and its number
 abbrev past : Key → ℕ → ℕ → ℕ

@@ -1,8 +1,7 @@
 -- How a wire line is read, field by field from the left, so that the leftmost fault decides: its seven values and the
 -- part of the line that each fills, or the key, the cause and the byte of the fault.
-use Rattle.std.specs.Prelude.{ℕ, cond, List, Some, None, Ok, Err, Option, Result}
-use Rattle.lines.specs.declared.fault.LineFault.{LineFault}
-use Rattle.lines.specs.Faults.{text_fault}
+use Rattle.std.specs.Prelude.{ℕ, cond, List, Ok, Err, Result}
+use Rattle.lines.specs.Faults.{LineFault, text_fault}
 use Rattle.lines.specs.Readings.{text_at, letter_at, field_at, end_at}
 use Rattle.lines.specs.Results.{and_then, on_err}
 use Rattle.lines.specs.Tokens.{Seen, seen, place_in, value_in, first_in}
@@ -13,7 +12,7 @@ use Rattle.messages.specs.declared.wire.key.Key.TheVariants.{Kind as KindKey, Tn
 use Rattle.messages.specs.declared.wire.parts.Parts.{Parts}
 use Rattle.messages.specs.declared.wire.unread.Unread.{Unread}
 use Rattle.messages.specs.declared.wire.unread.Unread.TheVariants.{NotLawful, NotALine}
-use Rattle.messages.specs.Kinds.{kind_of}
+use Rattle.messages.specs.Kinds.{kind_or_letter}
 use Rattle.messages.specs.Lawful.{is_lawful}
 use Rattle.messages.specs.Wire.{key_text, key_most}
 
@@ -29,12 +28,8 @@ pub record Shown : Type 0 where
   pub cause : Seen
 
 -- a letter that is no kind's is at fault itself
-abbrev pub kind_or : Option Kind → ℕ → Result Kind (LineFault Key)
-kind_or (Some kind) at = Ok kind
-kind_or None at = Err (text_fault KindKey at)
-
 unfoldable pub kind_at : Seen → Result Kind (LineFault Key)
-kind_at letter = kind_or (kind_of (first_in letter)) (place_in letter)
+kind_at letter = on_err (λ _. text_fault KindKey (place_in letter)) (kind_or_letter (first_in letter))
 
 abbrev pub field_of : Key → ℕ → List ℕ → Result (Seen × ℕ) (LineFault Key)
 field_of key at line = field_at key (key_text key) (key_most key) at line

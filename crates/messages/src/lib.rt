@@ -9,7 +9,7 @@ pub mod service;
 pub mod values;
 pub mod wire;
 
-pub use kind::Kind;
+pub use kind::{Kind, UnknownLetter};
 pub use limits::Limits;
 pub use message::Message;
 pub use service::Service;

@@ -4,7 +4,7 @@ ghost use Rattle.messages.specs.Lawful.{limits_of};
 use crate::kind::Kind;
 
 /// What the numbers of a kind may be: the largest of each, and the least cause.
-#[derive(Clone, Copy)]
+#[derive(Clone, Copy, Debug, PartialEq, Eq)]
 pub struct Limits {
     pub party: u8,
     pub service: u8,
@@ -27,28 +27,27 @@ impl Limits {
     pub fn of(kind: Kind) -> Limits
         ensures { result ≡ limits_of kind }
     {
-        let none = Limits::NONE;
         match kind {
             Kind::Request => Limits {
                 party: 63,
                 service: 3,
                 retention: 1,
-                ..none
+                ..Limits::NONE
             },
             Kind::Result | Kind::CallBusy => Limits {
                 retention: 1,
-                ..none
+                ..Limits::NONE
             },
             Kind::Cancel => Limits {
                 most_cause: 4,
-                ..none
+                ..Limits::NONE
             },
             Kind::Error => Limits {
                 least_cause: 6,
                 most_cause: 7,
-                ..none
+                ..Limits::NONE
             },
-            _ => none,
+            _ => Limits::NONE,
         }
     }
 }

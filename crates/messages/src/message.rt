@@ -5,7 +5,7 @@ ghost use Rattle.messages.specs.Lawful.{is_lawful};
 use crate::values::Values;
 
 /// A lawful message: no message exists whose values break their ranges.
-#[derive(Clone, Copy)]
+#[derive(Clone, Copy, Debug, PartialEq, Eq)]
 pub struct Message {
     values: Values,
     ghost lawful: { is_lawful values ≡ true },

@@ -2,7 +2,7 @@ ghost use Rattle.std.specs.Prelude.{◌≡◌};
 ghost use Rattle.messages.specs.Services.{service_number, service_of, service_meant};
 
 /// The bearer service that a request asks for.
-#[derive(Clone, Copy, PartialEq, Eq)]
+#[derive(Clone, Copy, Debug, PartialEq, Eq)]
 pub enum Service {
     NotGiven = 0,
     /// 3.1 kHz audio
@@ -12,18 +12,19 @@ pub enum Service {
     Digital = 3,
 }
 
-impl Service {
-    /// Its number, 0 to 3.
-    pub fn number(self) -> u8
-        ensures { result ≡ service_number self }
-    {
-        self as u8
-    }
+impl From<Service> for u8 {
+    ghost from_gives = { λ service number. number ≡ service_number service };
 
-    /// The service of a number; one above 3 gives none.
-    pub fn of(number: u8) -> Service
-        ensures { result ≡ service_of number }
-    {
+    fn from(service: Service) -> u8 {
+        service as u8
+    }
+}
+
+impl From<u8> for Service {
+    ghost from_gives = { λ number service. service ≡ service_of number };
+
+    // A number above 3 gives no service.
+    fn from(number: u8) -> Service {
         match number {
             1 => Service::Audio,
             2 => Service::Speech,
@@ -31,7 +32,9 @@ impl Service {
             _ => Service::NotGiven,
         }
     }
+}
 
+impl Service {
     /// The service meant: one that is not given is taken as 3.1 kHz audio.
     pub fn meant(self) -> Service
         ensures { result ≡ service_meant self }

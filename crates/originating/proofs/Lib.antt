@@ -1,7 +1,3 @@
-mod Accepted
-mod Finds
-mod Granted
-mod Passes
-mod Places
-mod Posted
+pub mod Kept
+mod Sent
 mod Wakes

@@ -3,7 +3,6 @@
 #![tactic(auto)]
 
 mod looks;
-mod sent;
 pub mod side;
 
 pub use side::ASide;

@@ -1,11 +1,18 @@
 -- How many of a table pass a test, over its changes.
-use Rattle.std.proofs.Common.{◌≡◌, ℕ, suc, ◌+◌, ◌≤◌, Bool, true, false, cond, ◌||◌, eqb, ◌⊎◌, List, [], ◌∷◌, ◌++◌, map, length, Some, filter, sym, refl, ap, ◌∙◌, inl, inr, arith}
+use Rattle.std.proofs.Common.{◌≡◌, ℕ, suc, ◌+◌, ◌≤◌, Bool, true, false, cond, ◌||◌, eqb, ◌⊎◌, List, [], ◌∷◌, ◌++◌, map, length, Some, count_by, filter, sym, refl, ap, ◌∙◌, inl, inr, arith}
 use Rattle.std.proofs.lemmas.Bool.{or_parts, or_left, or_right}
+use Rattle.std.proofs.lemmas.List.{length-map}
+use Rattle.std.proofs.lemmas.List.Recursion.{is_count_by}
+use Rattle.std.proofs.lemmas.List.Sums.{length-filter}
 use Rattle.tables.proofs.Tables.{never, never_some}
 use Rattle.tables.specs.Tables.{found, without, replaced, times}
 use Rattle.waiting_line.specs.Searches.{some}
 
 module _ {R : Type 0} (q : R → Bool) where
+  -- the library's word for what `filter` and `count` give
+  pub times_count_by : (rs : List R) → times q rs ≡ count_by q rs
+  times_count_by = is_count_by (times q) q refl (λ r rs. let more : suc (times q rs) ≡ 1 + times q rs = omega arith in ap (λ n. cond (q r) n (times q rs)) more)
+
   pub times_none : (rs : List R) → some q rs ≡ false → times q rs ≡ 0
   times_none [] h = refl
   times_none (r ∷ rs) h = rw (or_parts (q r) _ h).0 (times_none rs (or_parts (q r) _ h).1)
@@ -29,12 +36,7 @@ module _ {R : Type 0} (q : R → Bool) where
   times_map f h (x ∷ rs) = λ i. cond (h x i) (suc (times_map f h rs i)) (times_map f h rs i)
 
   pub length_kept : {S : Type 0} (g : R → S) (rs : List R) → length (map g (filter q rs)) ≡ times q rs
-  length_kept g [] = refl
-  length_kept g (x ∷ rs) = go (q x) (length_kept g rs)
-    where
-      go : (b : Bool) → length (map g (filter q rs)) ≡ times q rs → length (map g (cond b (x ∷ filter q rs) (filter q rs))) ≡ cond b (suc (times q rs)) (times q rs)
-      go true ih = ap suc ih
-      go false ih = ih
+  length_kept g rs = length-map (filter q rs) g ∙ length-filter q rs ∙ sym (times_count_by rs)
 
   module _ (tn : R → ℕ) where
     pub times_replaced : (s : R) (rs : List R) (x : R) → found tn (tn s) rs ≡ Some x → q x ≡ q s → times q (replaced tn s rs) ≡ times q rs

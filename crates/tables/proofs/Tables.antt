@@ -1,5 +1,7 @@
 -- What the records of one transaction are after a change of the table: its own change, or none.
 use Rattle.std.proofs.Common.{◌≡◌, ℕ, ◌≤◌, Bool, true, false, cond, eqb, List, [], ◌∷◌, ◌++◌, map, length, Some, None, Option, sym, refl, ap, ◌∙◌, subst, arith}
+use Rattle.std.proofs.lemmas.List.{append-nil}
+use Rattle.std.proofs.lemmas.List.Elements.{filter-append}
 use Rattle.std.proofs.lemmas.Bool.{eqb-true, eqb-false, eq-eqb, ne_eqb}
 use Rattle.tables.specs.Tables.{Change, same, added, became, removed, found, without, replaced, those, changed, first_by}
 
@@ -16,10 +18,10 @@ first [] = None
 first (x ∷ xs) = Some x
 
 pub never : {A : Type 0} → true ≡ false → A
-never e = absurd (let z : ◌≡◌ {A = ℕ} 0 1 = cc in omega arith)
+never e = cc
 
 pub never_some : {A R : Type 0} {r : R} → None ≡ Some r → A
-never_some e = absurd (let z : ◌≡◌ {A = ℕ} 0 1 = cc in omega arith)
+never_some e = cc
 
 -- two tests of one number against two that differ
 pub never_both : (a m n : ℕ) → eqb a m ≡ true → eqb m n ≡ false → eqb a n ≡ false
@@ -53,12 +55,7 @@ module _ {R : Type 0} (tn : R → ℕ) where
   Own n (removed m) = eqb m n ≡ true
 
   pub those_append : (n : ℕ) (xs ys : List R) → those tn n (xs ++ ys) ≡ those tn n xs ++ those tn n ys
-  those_append n [] ys = refl
-  those_append n (x ∷ xs) ys = go (eqb (tn x) n) (those_append n xs ys)
-    where
-      go : (b : Bool) → those tn n (xs ++ ys) ≡ those tn n xs ++ those tn n ys → cond b (x ∷ those tn n (xs ++ ys)) (those tn n (xs ++ ys)) ≡ cond b (x ∷ those tn n xs) (those tn n xs) ++ those tn n ys
-      go true ih = ap (λ zs. x ∷ zs) ih
-      go false ih = ih
+  those_append n xs ys = filter-append (λ r. eqb (tn r) n) xs ys
 
   pub those_one_other : (n : ℕ) (x : R) → eqb (tn x) n ≡ false → those tn n (x ∷ []) ≡ []
   those_one_other n x h = rw h
@@ -100,11 +97,7 @@ module _ {R : Type 0} (tn : R → ℕ) where
 
   pub those_other : (n : ℕ) (c : Change R) (rs : List R) → Other n c → those tn n (changed tn c rs) ≡ those tn n rs
   those_other n same rs h = refl
-  those_other n (added r) rs h = those_append n rs (r ∷ []) ∙ ap (λ zs. those tn n rs ++ zs) (those_one_other n r h) ∙ nil (those tn n rs)
-    where
-      nil : (xs : List R) → xs ++ [] ≡ xs
-      nil [] = refl
-      nil (x ∷ xs) = ap (λ zs. x ∷ zs) (nil xs)
+  those_other n (added r) rs h = those_append n rs (r ∷ []) ∙ ap (λ zs. those tn n rs ++ zs) (those_one_other n r h) ∙ append-nil (those tn n rs)
   those_other n (became r) rs h = those_replaced_other n r rs h
   those_other n (removed m) rs h = those_without_other n m rs h
 
@@ -149,8 +142,7 @@ none [] e = refl
 none (x ∷ xs) e = never_some (sym e)
 
 pub nil_right : {R : Type 0} (xs : List R) → xs ++ [] ≡ xs
-nil_right [] = refl
-nil_right (x ∷ xs) = ap (λ zs. x ∷ zs) (nil_right xs)
+nil_right xs = append-nil xs
 
 module _ {R : Type 0} (tn : R → ℕ) (n : ℕ) where
   -- the record that was found is the only one of its transaction

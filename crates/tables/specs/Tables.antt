@@ -1,6 +1,6 @@
 -- Tables of records that tell their transaction: the search by first match, and what one call can change.
 -- No definition asks that a transaction has one record only; that it has is a law of every run.
-use Rattle.std.specs.Prelude.{ℕ, suc, Bool, cond, List, [], ◌∷◌, ◌++◌, Some, None, Option, ◌==◌}
+use Rattle.std.specs.Prelude.{ℕ, suc, Bool, cond, List, [], ◌∷◌, ◌++◌, Option, ◌==◌, filter, find}
 
 -- one record at most is added, replaced or removed by a call; it tells its transaction
 pub data Change (R : Type 0) : Type 0 where
@@ -13,8 +13,7 @@ pub data Change (R : Type 0) : Type 0 where
 module _ {R : Type 0} (tn : R → ℕ) where
   -- the first record of transaction n
   abbrev pub found : ℕ → List R → Option R
-  found n [] = None
-  found n (r ∷ rs) = cond (tn r == n) (Some r) (found n rs)
+  found n rs = find (λ r. tn r == n) rs
 
   -- without the first record of transaction n
   abbrev pub without : ℕ → List R → List R
@@ -28,8 +27,7 @@ module _ {R : Type 0} (tn : R → ℕ) where
 
   -- the records of transaction n
   abbrev pub those : ℕ → List R → List R
-  those n [] = []
-  those n (r ∷ rs) = cond (tn r == n) (r ∷ those n rs) (those n rs)
+  those n rs = filter (λ r. tn r == n) rs
 
   abbrev pub changed : Change R → List R → List R
   changed same rs = rs
@@ -44,5 +42,4 @@ times p (r ∷ rs) = cond (p r) (suc (times p rs)) (times p rs)
 
 -- the first that passes the test
 abbrev pub first_by : {R : Type 0} → (R → Bool) → List R → Option R
-first_by p [] = None
-first_by p (r ∷ rs) = cond (p r) (Some r) (first_by p rs)
+first_by p rs = find p rs

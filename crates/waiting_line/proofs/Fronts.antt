@@ -1,89 +1,60 @@
 -- The front of a list, up to a count that may pass its end, and what a change of the front leaves.
-use Rattle.std.proofs.Common.{◌≡◌, ℕ, suc, ◌+◌, ◌-◌, ◌<◌, ◌≤◌, List, ◌++◌, map, length, take, drop, set, sym, ap, ◌∙◌, ⊎_elim, arith}
-use borrow.Rule.Slice.PartMut.{put_mid}
+use Rattle.std.proofs.Common.{◌≡◌, ℕ, suc, ◌+◌, ◌<◌, ◌≤◌, List, [], ◌∷◌, ◌++◌, length, take, drop, set, sym, refl, ap, ◌∙◌, subst, ⊎_elim, arith}
 use Rattle.std.specs.List.{between, remove}
-use Rattle.std.proofs.lemmas.List.{length-take, set-append_left, take_all, take_at, take-take, take-append-drop, length-append, length-drop, append_assoc, append-nil, drop-drop, drop_all}
+use Rattle.std.proofs.lemmas.List.{append_assoc, drop_all, length-set, length-take, length_push, set-append_left, set_split, take-append-drop, take-take, take_at}
 use Rattle.std.proofs.lemmas.Slice.{between_is}
 use Rattle.std.proofs.lemmas.Bool.{cases_lt}
+use Rattle.waiting_line.specs.declared.line.WaitingLine.{WaitingLine}
 use Rattle.waiting_line.specs.Gaps.{over, closed}
+use Rattle.waiting_line.specs.Lines.{memory, items, capacity, Holds}
 
 module _ {X : Type 0} (u : ℕ) (xs : List X) where
-  module _ (n : ℕ) (held : n ≡ length (take u xs)) where
-    pub front_held : take n xs ≡ take u xs
-    front_held =
-        let k = length-take u xs in
-        ⊎_elim
-        (λ l. ap (λ m. take m xs) (let h : n ≡ u = omega arith in h))
-        (λ l. take_all n xs (omega arith) ∙ sym (take_all u xs l))
-        (cases_lt u (length xs))
-
-    pub rest_held : drop n xs ≡ drop u xs
-    rest_held =
-        let k = length-take u xs in
-        ⊎_elim
-        (λ l. ap (λ m. drop m xs) (let h : n ≡ u = omega arith in h))
-        (λ l. drop_all n xs (omega arith) ∙ sym (drop_all u xs l))
-        (cases_lt u (length xs))
-
-  pub front_kept : (fs : List X) → fs ≡ take u xs → xs ≡ fs ++ drop u xs
-  front_kept fs same = sym (ap (λ l. l ++ drop u xs) same ∙ take-append-drop u xs)
+  rest_held : (n : ℕ) → n ≡ length (take u xs) → drop n xs ≡ drop u xs
+  rest_held n held =
+      let k = length-take u xs in
+      ⊎_elim
+      (λ l. ap (λ m. drop m xs) (let h : n ≡ u = omega arith in h))
+      (λ l. drop_all n xs (omega arith) ∙ sym (drop_all u xs l))
+      (cases_lt u (length xs))
 
   pub front_over : (fs : List X) → fs ≡ take u xs → xs ≡ over fs xs
-  front_over fs same = front_kept fs same ∙ ap (λ l. fs ++ l) (sym (rest_held (length fs) (ap length same)))
+  front_over fs same = sym (ap (λ l. l ++ drop (length fs) xs) same ∙ ap (λ l. take u xs ++ l) (rest_held (length fs) (ap length same)) ∙ take-append-drop u xs)
 
-  -- a front of the same length in the place of the old one
-  module _ (fs : List X) (same : length fs ≡ length (take u xs)) where
-    pub front_of : take u (fs ++ drop u xs) ≡ fs
-    front_of =
-        let k = length-take u xs in
-        ⊎_elim
-        (λ l. take_at fs (drop u xs) u (omega arith))
-        (λ l. ap (λ r. take u (fs ++ r)) (drop_all u xs l) ∙ ap (take u) (append-nil fs) ∙ take_all u fs (omega arith))
-        (cases_lt u (length xs))
+  -- another element at a place of the front
+  pub front_set : (i : ℕ) (y : X) → i < u → u ≤ length xs → set xs i y ≡ over (set (take u xs) i y) xs
+  front_set i y l fit =
+      let k = length-take u xs in
+      ap (λ l. set l i y) (sym (take-append-drop u xs)) ∙ set-append_left (take u xs) (drop u xs) i y (omega arith)
+      ∙ ap (λ l. set (take u xs) i y ++ l) (sym (rest_held (length (set (take u xs) i y)) (length-set (take u xs) i y)))
 
-    pub front_long : length (fs ++ drop u xs) ≡ length xs
-    front_long =
-        let k = length-take u xs in
-        let d = length-drop u xs in
-        let a = length-append fs (drop u xs) in
-        omega arith
+  -- one more element at the end of the front
+  pub front_push : (y : X) → u < length xs → set xs u y ≡ over (take u xs ++ y ∷ []) xs
+  front_push y room =
+      let size : suc u ≡ length (take u xs ++ y ∷ []) = omega (arith, length_push (take u xs) y, length-take u xs) in
+      set_split xs u y room ∙ sym (append_assoc (take u xs) (y ∷ []) (drop (suc u) xs)) ∙ ap (λ n. (take u xs ++ y ∷ []) ++ drop n xs) size
 
-  pub front_set : (i : ℕ) (y : X) → i < length (take u xs) → set xs i y ≡ set (take u xs) i y ++ drop u xs
-  front_set i y l = ap (λ l. set l i y) (sym (take-append-drop u xs)) ∙ set-append_left (take u xs) (drop u xs) i y l
+  -- the front without its element at i, once the gap of one place at i is closed
+  pub without : (i : ℕ) → i < u → closed i 1 u xs ≡ over (remove (take u xs) i) xs
+  without i l =
+      let front : take i xs ≡ take i (take u xs) = sym (take-take i u xs (omega arith)) in
+      let part : between (i + 1) u xs ≡ drop (suc i) (take u xs) = between_is xs (i + 1) u ∙ ap (λ k. drop k (take u xs)) (let e : i + 1 ≡ suc i = omega arith in e) in
+      ap (λ f. over f xs) (ap (λ f. f ++ between (i + 1) u xs) front ∙ ap (λ f. take i (take u xs) ++ f) part)
 
-  pub front_mapped : (f : X → X) (n m : ℕ) (ys : List X) → n ≡ length (take u xs) → m ≡ n → ys ≡ map f (take m xs) → ys ++ drop m xs ≡ map f (take u xs) ++ drop u xs
-  front_mapped f n m ys held mn is =
-      let e = mn ∙ held in
-      ap (λ l. l ++ drop m xs) (is ∙ ap (map f) (front_held m e)) ∙ ap (λ l. map f (take u xs) ++ l) (rest_held m e)
+  -- the front without its first n elements, once their gap is closed
+  pub without_first : (n : ℕ) → closed 0 n u xs ≡ over (drop n (take u xs)) xs
+  without_first n = ap (λ f. over f xs) (between_is xs (0 + n) u ∙ ap (λ k. drop k (take u xs)) (let e : 0 + n ≡ n = omega arith in e))
 
-pub over_long : {X : Type 0} (fs xs : List X) → length fs ≤ length xs → length (over fs xs) ≡ length xs
-over_long fs xs fit =
-    let a = length-append fs (drop (length fs) xs) in
-    let d = length-drop (length fs) xs in
-    omega arith
+-- elements laid over the memory, as many as are counted then, are what the line holds
+pub laid : {X : Type 0} (before after : WaitingLine X) (elements : List X) → after.used ≡ length elements → capacity after ≡ capacity before → memory after ≡ over elements (memory before) → Holds before elements after
+laid before after elements size places is = record {
+  items = ap (take after.used) is ∙ take_at elements (drop (length elements) (memory before)) after.used (sym size);
+  memory = is;
+  capacity = places;
+}
 
-pub removed_past : {X : Type 0} (xs : List X) (i : ℕ) → length xs ≤ i → remove xs i ≡ xs
-removed_past xs i l = ap (λ ys. ys ++ drop (suc i) xs) (take_all i xs l) ∙ ap (λ ys. xs ++ ys) (drop_all (suc i) xs (omega arith)) ∙ append-nil xs
+pub unchanged : {X : Type 0} (w : WaitingLine X) → Holds w (items w) w
+unchanged w = record { items = refl; memory = front_over w.used (memory w) (items w) refl; capacity = refl }
 
--- the front without its element at i, once the gap of one place at i is closed
-pub without : {X : Type 0} (u : ℕ) (xs : List X) (i n : ℕ) → i < n → n ≡ length (take u xs) → closed i 1 n xs ≡ over (remove (take u xs) i) xs
-without u xs i n l held =
-    let fs = take u xs in
-    let front : take i xs ≡ take i fs = sym (take-take i n xs (omega arith)) ∙ ap (take i) (front_held u xs n held) in
-    let part : between (i + 1) n xs ≡ drop (suc i) fs = between_is xs (i + 1) n ∙ ap (drop (i + 1)) (front_held u xs n held) ∙ ap (λ k. drop k fs) (let e : i + 1 ≡ suc i = omega arith in e) in
-    ap (λ f. over f xs) (ap (λ f. f ++ between (i + 1) n xs) front ∙ ap (λ f. take i fs ++ f) part)
-
--- what stands past the front, once it is laid over by more
-pub with_more : {X : Type 0} (u : ℕ) (xs ys zs : List X) (n : ℕ) → n ≡ length (take u xs) → n + length zs ≤ length xs → ys ≡ zs → put_mid n (n + length zs - n) xs ys ≡ over (take u xs ++ zs) xs
-with_more u xs ys zs n held fit is =
-    let fs = take u xs in
-    let size = length-append fs zs in
-    let past : drop (n + length zs - n) (drop n xs) ≡ drop (length (fs ++ zs)) xs =
-    drop-drop (n + length zs - n) n xs ∙ ap (λ k. drop k xs) (let e : n + (n + length zs - n) ≡ length (fs ++ zs) = omega arith in e) in
-    ap (λ l. take n xs ++ (ys ++ l)) past ∙ ap (λ l. l ++ (ys ++ drop (length (fs ++ zs)) xs)) (front_held u xs n held)
-    ∙ ap (λ l. fs ++ (l ++ drop (length (fs ++ zs)) xs)) is ∙ sym (append_assoc fs zs (drop (length (fs ++ zs)) xs))
-
--- the front without its first n elements, once their gap is closed
-pub without_first : {X : Type 0} (u : ℕ) (xs : List X) (n m : ℕ) → m ≡ length (take u xs) → closed 0 n m xs ≡ over (drop n (take u xs)) xs
-without_first u xs n m held =
-    ap (λ f. over f xs) (between_is xs (0 + n) m ∙ ap (drop (0 + n)) (front_held u xs m held) ∙ ap (λ k. drop k (take u xs)) (let e : 0 + n ≡ n = omega arith in e))
+-- the same elements, told in another way
+pub told_as : {X : Type 0} {before after : WaitingLine X} {xs ys : List X} → Holds before xs after → xs ≡ ys → Holds before ys after
+told_as {before = before} {after} left same = subst (λ l. Holds before l after) same left

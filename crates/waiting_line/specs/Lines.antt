@@ -1,10 +1,11 @@
 -- What a waiting line holds, and what its calls answer and leave, over the list of its elements and the whole of its memory.
 -- Past the end of a list `slice_set` and `remove` change nothing, so that a denied call leaves all as it was.
-use Rattle.std.specs.Prelude.{ℕ, ◌+◌, Bool, cond, List, [], ◌∷◌, ◌++◌, length, take, drop, Ok, Err, Result, nat_le, nat_lt}
+use Rattle.std.specs.Prelude.{◌≡◌, ℕ, ◌+◌, Bool, cond, List, [], ◌∷◌, ◌++◌, length, take, Ok, Err, Result, nat_le, nat_lt}
 use Rattle.std.specs.Option.{ok_or}
 use Rattle.std.specs.List.{slice_get}
 use Rattle.answers.specs.declared.denial.Denial.{Denial}
 use Rattle.answers.specs.declared.denial.Denial.TheVariants.{NoFreePlace, NoneThere}
+use Rattle.waiting_line.specs.Gaps.{over}
 use Rattle.waiting_line.specs.declared.line.WaitingLine.{WaitingLine}
 
 -- all that was given to it
@@ -15,13 +16,15 @@ memory w = w.places.now
 abbrev pub items : {T : Type 0} → WaitingLine T → List T
 items w = take w.used (memory w)
 
--- the memory past the last element
-abbrev pub spare : {T : Type 0} → WaitingLine T → List T
-spare w = drop w.used (memory w)
-
 -- how many places there are
 abbrev pub capacity : {T : Type 0} → WaitingLine T → ℕ
 capacity w = length (memory w)
+
+-- the line holds these elements then; past them its memory is as it was, and it has as many places
+pub record Holds {T : Type 0} (before : WaitingLine T) (elements : List T) (after : WaitingLine T) : Type 0 where
+  pub items : items after ≡ elements
+  pub memory : memory after ≡ over elements (memory before)
+  pub capacity : capacity after ≡ capacity before
 
 -- the elements hold each of n places
 abbrev pub full : {T : Type 0} → ℕ → List T → Bool

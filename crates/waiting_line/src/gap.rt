@@ -5,11 +5,9 @@ ghost use Rattle.waiting_line.specs.Gaps.{closed};
 pub fn close_gap<T: Copy>(memory: &mut [T], from: usize, gap: usize, end: usize)
     ensures { memory.new ≡ closed from gap end memory.old }
 {
-    let count = end
-        .min(memory.len())
-        .saturating_sub(from)
-        .saturating_sub(gap);
-    for i in from..from + count {
-        memory[i] = memory[i + gap];
+    let start = from.saturating_add(gap);
+    let end = end.min(memory.len());
+    if start < end {
+        memory.copy_within(start..end, from);
     }
 }

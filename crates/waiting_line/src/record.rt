@@ -21,10 +21,5 @@ pub fn find<T: Record>(records: &[T], tn: u32) -> Option<usize>
     ensures place { result ≡ first_where (λ x. nat_eq (T.Record.transaction_of x) tn) records.now }
     ensures within { IfSome result (λ i. i < length records.now) }
 {
-    for (i, record) in records.iter().enumerate() {
-        if record.transaction() == tn {
-            return Some(i);
-        }
-    }
-    None
+    records.iter().position(|record| record.transaction() == tn)
 }

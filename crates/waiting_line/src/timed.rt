@@ -17,6 +17,7 @@ pub trait Timed {
 }
 
 /// One tick for each record.
+#[tactic(auto, using(std::proofs::lemmas::List::Edits::map_over_more))]
 pub fn tick_all<T: Timed>(records: &mut [T])
     ensures { records.new ≡ map T.Timed.ticked records.old }
 {
@@ -30,17 +31,12 @@ pub fn first_due<T: Timed>(records: &[T]) -> Option<usize>
     ensures place { result ≡ first_where T.Timed.due records.now }
     ensures within { IfSome result (λ i. i < length records.now) }
 {
-    for (i, record) in records.iter().enumerate() {
-        if record.is_due() {
-            return Some(i);
-        }
-    }
-    None
+    records.iter().position(|record| record.is_due())
 }
 
 /// Whether some record is due.
 pub fn any_due<T: Timed>(records: &[T]) -> bool
     ensures { result ≡ some T.Timed.due records.now }
 {
-    first_due(records).is_some()
+    records.iter().any(|record| record.is_due())
 }

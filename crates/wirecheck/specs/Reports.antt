@@ -1,9 +1,9 @@
 -- The line of the report for each line of the log, as the pieces that it is made of: the message in words, with what its kind
 -- uses, or the denial with the cause in words, the key and the byte.
-use Rattle.std.specs.Prelude.{ℕ, cond, List, [], ◌∷◌, ◌++◌, Ok, Err, codes, decimal, Result, ◌==◌}
+use Rattle.std.specs.Prelude.{◌≡◌, ℕ, cond, List, [], ◌∷◌, ◌++◌, Ok, Err, codes, decimal, Result, ◌==◌}
 use Rattle.answers.specs.Numbers.{cause_of, denial_number}
-use Rattle.lines.specs.declared.fault.LineFault.{LineFault}
-use Rattle.lines.specs.Faults.{fault_cause, fault_place}
+use Rattle.drafts.specs.Drafts.{written, added_all}
+use Rattle.lines.specs.Faults.{LineFault, fault_cause, fault_place}
 use Rattle.messages.specs.declared.kind.Kind.{Kind}
 use Rattle.messages.specs.declared.kind.Kind.TheVariants.{Request, Suspend, Resume, Call, Cancel, Result as ResultKind, Error, RemoteUserFree, CallDone, CallBusy}
 use Rattle.messages.specs.declared.values.Values.{Values}
@@ -12,7 +12,15 @@ use Rattle.messages.specs.declared.wire.unread.Unread.{Unread}
 use Rattle.messages.specs.declared.wire.unread.Unread.TheVariants.{NotLawful, NotALine}
 use Rattle.messages.specs.Services.{service_of}
 use Rattle.messages.specs.Wire.{unread_denial}
+use Rattle.wirecheck.specs.declared.report.Report.{Report}
 use Rattle.wirecheck.specs.Words.{kind_words, service_words, cause_words, fault_words, key_words}
+
+abbrev pub told_in : Report → List ℕ
+told_in report = written report.text
+
+-- a report says these pieces after what it said before; one that does not fit within its 160 bytes is left out
+abbrev pub Says : Report → List (List ℕ) → Report → Type 0
+Says before pieces after = told_in after ≡ added_all 160 (told_in before) pieces
 
 abbrev pub numbered : List ℕ → ℕ → List (List ℕ)
 numbered text n = text ∷ decimal n ∷ []

@@ -2,7 +2,7 @@ ghost use Rattle.std.specs.Prelude.{◌≡◌, ◌/◌, [], length};
 ghost use Rattle.messages.specs.Made.{said};
 ghost use Rattle.waiting_line.specs.Gaps.{over};
 ghost use Rattle.waiting_line.specs.Lines.{put_answer, put_left};
-ghost use Rattle.channels.specs.Meaning.{taken, rest};
+ghost use Rattle.channels.specs.Meaning.{taken, rest, Leaves};
 ghost use Rattle.channels.specs.Lined.{first_line, lines_of};
 ghost use Rattle.channels.specs.Wires.{wire_memory, wire_capacity, wire_waiting, wire_fits, wire_lawful};
 
@@ -16,12 +16,10 @@ use waiting_line::WaitingLine;
 fn first_line(bytes: &[u8]) -> &[u8]
     ensures { result.now ≡ first_line bytes.now }
 {
-    for (i, byte) in bytes.iter().enumerate() {
-        if *byte == b'\n' {
-            return &bytes[..i + 1];
-        }
-    }
     bytes
+        .split_inclusive(|byte| *byte == b'\n')
+        .next()
+        .unwrap_or(bytes)
 }
 
 impl<'m> Wire<'m> {
@@ -58,21 +56,17 @@ impl<'m> Channel for Wire<'m> {
         self.bytes.places() / LONGEST
     }
 
-    fn look(&self) -> Option<Message> {
-        match read(first_line(self.bytes.all())) {
-            Ok(message) => Some(message),
-            Err(_) => None,
-        }
+    fn len(&self) -> usize {
+        self.count
     }
 
-    fn free(&self) -> usize {
-        self.capacity() - self.count
+    fn look(&self) -> Option<Message> {
+        read(first_line(self.bytes.all())).ok()
     }
 
     fn put(&mut self, message: Message) -> Result<(), Denial>
         ensures answer { result ≡ put_answer (wire_capacity self.old) (wire_waiting self.old) }
-        ensures waiting { wire_waiting self.new ≡ put_left (wire_capacity self.old) (wire_waiting self.old) message.values }
-        ensures capacity { wire_capacity self.new ≡ wire_capacity self.old }
+        ensures leaves { Leaves wire_capacity wire_waiting self.old (put_left (wire_capacity self.old) (wire_waiting self.old) message.values) self.new }
         ensures memory { wire_memory self.new ≡ over (lines_of (wire_waiting self.new)) (wire_memory self.old) }
     {
         if self.count == self.capacity() {
@@ -85,8 +79,7 @@ impl<'m> Channel for Wire<'m> {
 
     fn take(&mut self) -> Result<Message, Denial>
         ensures answer { said result ≡ taken (wire_waiting self.old) }
-        ensures waiting { wire_waiting self.new ≡ rest (wire_waiting self.old) }
-        ensures capacity { wire_capacity self.new ≡ wire_capacity self.old }
+        ensures leaves { Leaves wire_capacity wire_waiting self.old (rest (wire_waiting self.old)) self.new }
         ensures memory { wire_memory self.new ≡ over (lines_of (wire_waiting self.new)) (wire_memory self.old) }
     {
         let message = self.look().ok_or(Denial::NoneThere)?;

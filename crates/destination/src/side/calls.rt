@@ -1,28 +1,14 @@
 // The calls of the destination side.
-ghost use Rattle.std.specs.Prelude.{◌≡◌, true, false, length, replicate};
-ghost use Rattle.b_side.specs.Rules.{idle, b_fresh};
+ghost use Rattle.std.specs.Prelude.{◌≡◌, true, false, length};
+ghost use Rattle.b_side.specs.Rules.{b_fresh};
 ghost use Rattle.destination.specs.Sides.{b_of, record_memory};
-ghost use Rattle.destination.specs.Calls.{Came, turned, forwarding_set, ticked, expired};
+ghost use Rattle.destination.specs.Calls.{Came, CameSending, turned, forwarding_set, ticked, expired};
 
-use crate::guards::tick_guards;
-use crate::side::BSide;
+use crate::side::{BSide, Fit, Unfit};
 use answers::{Answer, Denial};
-use b_side::{BRecord, BSettings, Forwarding, LineFacts, examine};
+use b_side::{BRecord, BSettings, LineFacts, examine};
 use channels::Channel;
 use waiting_line::{Timed, WaitingLine};
-
-// Makes each line idle.
-fn clear(lines: &mut [LineFacts])
-    ensures { lines.new ≡ replicate (length lines.old) idle }
-{
-    for line in lines.iter_mut() {
-        *line = LineFacts {
-            busy: false,
-            forwarding: Forwarding::None,
-            guard: 0,
-        };
-    }
-}
 
 impl<'m> BSide<'m> {
     /// A side with no records, idle lines and no forwarding. One made of what is out of range denies every call with 1.
@@ -34,23 +20,33 @@ impl<'m> BSide<'m> {
         ensures side { b_of result ≡ b_fresh settings (length memory.old) facts.old }
         ensures memory { record_memory result ≡ memory.old }
     {
-        if examine(&settings, memory.len(), facts.len()).is_ok() {
-            clear(facts);
-        }
-        BSide {
-            settings,
-            records: WaitingLine::new(memory),
-            lines: facts,
-        }
+        let side = if examine(&settings, memory.len(), facts.len()).is_ok() {
+            facts.fill(LineFacts::default());
+            Ok(Fit {
+                settings,
+                records: WaitingLine::new(memory),
+                lines: facts,
+            })
+        } else {
+            Err(Unfit {
+                settings,
+                memory,
+                facts,
+            })
+        };
+        BSide { side }
     }
 
     fn turn(&mut self, destination: u8, busy: bool) -> Result<Answer, Denial>
         ensures { Came (turned (b_of self.old) destination busy) result self.old self.new }
     {
-        self.may_turn(destination)?;
-        let ran = self.guards();
-        self.turn_line(destination, busy);
-        self.settle(&ran);
+        let Ok(side) = &mut self.side else {
+            return Err(Denial::OutOfRange);
+        };
+        side.may_turn(destination)?;
+        let ran = side.guards();
+        side.turn_line(destination, busy);
+        side.settle(&ran);
         Ok(Answer::Done)
     }
 
@@ -72,8 +68,11 @@ impl<'m> BSide<'m> {
     pub fn set_forwarding(&mut self, destination: u8, forwarding: u8) -> Result<Answer, Denial>
         ensures { Came (forwarding_set (b_of self.old) destination forwarding) result self.old self.new }
     {
-        self.may_forward(destination, forwarding)?;
-        self.forward_line(destination, Forwarding::of(forwarding));
+        let Ok(side) = &mut self.side else {
+            return Err(Denial::OutOfRange);
+        };
+        let forwarding = side.may_forward(destination, forwarding)?;
+        side.forward_line(destination, forwarding);
         Ok(Answer::Done)
     }
 
@@ -81,23 +80,26 @@ impl<'m> BSide<'m> {
     pub fn tick(&mut self) -> Result<Answer, Denial>
         ensures { Came (ticked (b_of self.old)) result self.old self.new }
     {
-        self.may_tick()?;
-        let runs = self.guards();
-        tick_guards(self.lines, &runs);
-        self.records.tick();
+        let Ok(side) = &mut self.side else {
+            return Err(Denial::OutOfRange);
+        };
+        side.may_tick()?;
+        side.tick_guards();
+        side.records.tick();
         Ok(Answer::Done)
     }
 
     /// Handles one timer at 0: of the records first, in stored order, then of the guards.
     pub fn expiry<C: Channel>(&mut self, to_a: &mut C) -> Result<Answer, Denial>
-        ensures came { Came (expired (b_of self.old) (C.Channel.capacity to_a.old) (C.Channel.waiting to_a.old)) result self.old self.new }
-        ensures waiting { C.Channel.waiting to_a.new ≡ (expired (b_of self.old) (C.Channel.capacity to_a.old) (C.Channel.waiting to_a.old)).waiting }
-        ensures capacity { C.Channel.capacity to_a.new ≡ C.Channel.capacity to_a.old }
+        ensures { CameSending C.Channel.capacity C.Channel.waiting expired result self.old to_a.old self.new to_a.new }
     {
-        let due = self.may_expire(to_a)?;
-        let ran = self.guards();
-        let answer = self.expire(due, to_a);
-        self.settle(&ran);
+        let Ok(side) = &mut self.side else {
+            return Err(Denial::OutOfRange);
+        };
+        let due = side.may_expire(to_a)?;
+        let ran = side.guards();
+        let answer = side.expire(due, to_a);
+        side.settle(&ran);
         Ok(answer)
     }
 }

@@ -1,96 +1,64 @@
-// What each call decides first: the denials that apply to it, in their order.
-ghost use Rattle.std.specs.Prelude.{◌≡◌, true, not, ◌||◌, IfOk, Some};
-ghost use Rattle.answers.specs.Rows.{sized};
-ghost use Rattle.b_side.specs.Rules.{b_fit, unfit_b, b_line_refusal, forwarding_refusal, b_tick_refusal, b_expiry_refusal};
-ghost use Rattle.destination.specs.Sides.{b_of};
+// What each call decides first: the rows of denials that apply to it, in their order.
+ghost use Rattle.std.specs.Prelude.{◌≡◌, IfOk, Some};
+ghost use Rattle.answers.specs.Rows.{denied};
+ghost use Rattle.b_side.specs.Forwardings.{forwarding_of};
+ghost use Rattle.b_side.specs.Rules.{b_line_refusal, forwarding_refusal, b_tick_refusal, b_expiry_refusal};
+ghost use Rattle.destination.specs.Sides.{fit_of};
 ghost use Rattle.destination.specs.Dues.{due_of};
-ghost use Rattle.destination.specs.Calls.{denied};
 
 use crate::due::Due;
-use crate::guards::first_over;
-use crate::side::BSide;
+use crate::side::Fit;
+use crate::side::rows::MOST_SENT;
 use answers::Denial;
-use channels::Channel;
-use waiting_line::first_due;
+use b_side::Forwarding;
+use channels::{Channel, check_room, check_sized};
 
-// Whether a channel has 8 to 64 places.
-fn is_sized(capacity: usize) -> bool
-    ensures { result ≡ sized capacity }
-{
-    8 <= capacity && capacity <= 64
-}
-
-impl<'m> BSide<'m> {
+impl Fit<'_> {
     pub(super) fn may_turn(&self, destination: u8) -> Result<(), Denial>
-        ensures { denied result ≡ b_line_refusal (b_of self.now) destination }
+        ensures { denied result ≡ b_line_refusal (fit_of self.now) destination }
     {
-        if !self.is_fit() {
-            return Err(Denial::OutOfRange);
-        }
-        if destination as u32 >= self.settings.n {
-            return Err(Denial::NoSuchParty);
-        }
-        Ok(())
+        self.check_party(destination)
     }
 
-    pub(super) fn may_forward(&self, destination: u8, forwarding: u8) -> Result<(), Denial>
-        ensures { denied result ≡ forwarding_refusal (b_of self.now) destination forwarding }
+    // The forwarding of that number.
+    pub(super) fn may_forward(&self, destination: u8, forwarding: u8) -> Result<Forwarding, Denial>
+        ensures refusal { denied result ≡ forwarding_refusal (fit_of self.now) destination forwarding }
+        ensures forwarding { IfOk result (λ f. f ≡ forwarding_of forwarding) }
     {
-        self.may_turn(destination)?;
+        self.check_party(destination)?;
         if forwarding > 3 {
             return Err(Denial::AboveThree);
         }
-        Ok(())
+        Ok(Forwarding::from(forwarding))
     }
 
     // What is due first.
     fn due(&self) -> Option<Due>
-        requires { b_fit (b_of self.now) ≡ true }
-        ensures { result ≡ due_of (b_of self.now) }
+        ensures { result ≡ due_of (fit_of self.now) }
     {
-        let records = self.records.all();
-        if let Some(place) = first_due(records) {
-            return Some(Due::Record(records[place]));
-        }
-        match first_over(self.lines, records) {
-            Some(destination) => Some(Due::Guard(destination)),
-            None => None,
+        match tables::due(self.records.all()) {
+            Some(request) => Some(Due::Record(request)),
+            None => self.first_over().map(Due::Guard),
         }
     }
 
     pub(super) fn may_tick(&self) -> Result<(), Denial>
-        ensures { denied result ≡ b_tick_refusal (b_of self.now) }
+        ensures { denied result ≡ b_tick_refusal (fit_of self.now) }
     {
-        if !self.is_fit() {
-            return Err(Denial::OutOfRange);
-        }
         if self.due().is_some() {
             return Err(Denial::TimerDue);
         }
         Ok(())
     }
 
-    // Whether settings, memory and the channel's capacity are in range.
-    pub(super) fn is_ready<C: Channel>(&self, to_a: &C) -> bool
-        ensures { not result ≡ (unfit_b (b_of self.now) || not (sized (C.Channel.capacity to_a.now))) }
-    {
-        self.is_fit() && is_sized(to_a.capacity())
-    }
-
     // What an expiry handles.
     pub(super) fn may_expire<C: Channel>(&self, to_a: &C) -> Result<Due, Denial>
-        ensures denial { denied result ≡ b_expiry_refusal (b_of self.now) (C.Channel.capacity to_a.now) (C.Channel.waiting to_a.now) }
-        ensures due { IfOk result (λ due. Some due ≡ due_of (b_of self.now)) }
+        ensures refusal { denied result ≡ b_expiry_refusal (fit_of self.now) (C.Channel.capacity to_a.now) (C.Channel.waiting to_a.now) }
+        ensures due { IfOk result (λ due. Some due ≡ due_of (fit_of self.now)) }
     {
-        if !self.is_ready(to_a) {
-            return Err(Denial::OutOfRange);
-        }
-        let Some(due) = self.due() else {
-            return Err(Denial::NoneDue);
-        };
-        if to_a.free() == 0 {
-            return Err(Denial::NoFreePlace);
-        }
+        check_sized(to_a)?;
+        let due = self.due().ok_or(Denial::NoneDue)?;
+        check_room(to_a, MOST_SENT)?;
         Ok(due)
     }
 }

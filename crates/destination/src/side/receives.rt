@@ -1,69 +1,52 @@
 // What the messages toward B do, and those that come back from A.
-ghost use Rattle.std.specs.Prelude.{◌≡◌, true, cond, ◌||◌, [], Some, nat_eq};
+ghost use Rattle.std.specs.Prelude.{◌≡◌, ◌||◌, nat_eq};
 ghost use Rattle.tables.specs.Tables.{times};
 ghost use Rattle.messages.specs.declared.kind.Kind.TheVariants.{Result, RemoteUserFree};
 ghost use Rattle.messages.specs.Sent.{same_kind};
-ghost use Rattle.channels.specs.Meaning.{posts};
 ghost use Rattle.b_side.specs.declared.record.BRecord.{BRecord};
-ghost use Rattle.b_side.specs.Rules.{b_fit, line, turns_away, destination_full, objection as objection_to, agreed, accept, on_new, on_none, on_returned, b_receiving, b_returning};
-ghost use Rattle.destination.specs.Sides.{b_of};
-ghost use Rattle.destination.specs.Steps.{stepped};
-ghost use Rattle.destination.specs.Calls.{Acted, Did};
+ghost use Rattle.b_side.specs.Rules.{line, turns_away, objection as objection_to, agreed, accept, on_new, on_none, on_record, called_at, b_receiving, b_returning};
+ghost use Rattle.destination.specs.Sides.{fit_of};
+ghost use Rattle.destination.specs.Calls.{Acted, ActedSending, Did, DidSending};
 
-use crate::side::BSide;
-use crate::side::expires::send;
-use crate::step::{Step, step_of};
+use crate::side::Fit;
 use answers::{Answer, Cause};
-use b_side::{BRecord, BState};
-use channels::Channel;
+use b_side::{BRecord, BState, Forwarding};
+use channels::{Channel, post};
 use messages::{Kind, Service, Values};
-use waiting_line::find;
 
 // How many records a destination has.
 fn count_at(records: &[BRecord], destination: u8) -> usize
     ensures { result ≡ times (λ (x : BRecord). nat_eq x.destination destination) records.now }
 {
-    let mut count: usize = 0;
-    for i in 0..records.len() {
-        if records[i].destination == destination {
-            count += 1;
-        }
-    }
-    count
+    records
+        .iter()
+        .filter(|request| request.destination == destination)
+        .count()
 }
 
 // Whether a record cannot go on without this message: a result, or that the line is free.
 fn is_awaited(kind: Kind) -> bool
     ensures { result ≡ (same_kind kind Result || same_kind kind RemoteUserFree) }
 {
-    match kind {
-        Kind::Result | Kind::RemoteUserFree => true,
-        _ => false,
-    }
+    matches!(kind, Kind::Result | Kind::RemoteUserFree)
 }
 
-impl<'m> BSide<'m> {
-    // Whether a destination's line is busy.
-    fn is_busy(&self, destination: u8) -> bool
-        ensures { result ≡ (line (b_of self.now) destination).busy }
-    {
-        let place = destination as usize;
-        place < self.lines.len() && self.lines[place].busy
-    }
-
+impl Fit<'_> {
     // Whether a destination is forwarded so that requests are turned away.
     fn turns_away(&self, destination: u8) -> bool
-        ensures { result ≡ turns_away (line (b_of self.now) destination).forwarding }
+        ensures { result ≡ turns_away (line (fit_of self.now) destination).forwarding }
     {
-        let place = destination as usize;
-        place < self.lines.len() && self.lines[place].forwarding.number() >= 2
+        matches!(
+            self.line(destination).forwarding,
+            Forwarding::NoReply | Forwarding::Unconditional
+        )
     }
 
     // Why a request is rejected, if it is.
     fn objection(&self, message: &Values) -> Option<Cause>
-        ensures { result ≡ objection_to (b_of self.now) message.now }
+        ensures { result ≡ objection_to (fit_of self.now) message.now }
     {
-        if message.destination as u32 >= self.settings.n {
+        if u32::from(message.destination) >= self.settings.n {
             return Some(Cause::LongTermDenial);
         }
         if self.turns_away(message.destination) {
@@ -80,22 +63,19 @@ impl<'m> BSide<'m> {
 
     // Whether both sides have retention.
     fn agrees(&self, message: &Values) -> bool
-        ensures { result ≡ agreed (b_of self.now) message.now }
+        ensures { result ≡ agreed (fit_of self.now) message.now }
     {
         message.retention == 1 && self.settings.rb == 1
     }
 
     // A request of a transaction that does not stand: rejected, or stored last.
     fn request<C: Channel>(&mut self, message: Values, to_a: &mut C) -> Answer
-        requires { b_fit (b_of self.old) ≡ true }
-        ensures acted { Acted (on_new (b_of self.old) message (objection_to (b_of self.old) message)) result self.old self.new }
-        ensures waiting { C.Channel.waiting to_a.new ≡ posts (C.Channel.capacity to_a.old) (C.Channel.waiting to_a.old) (on_new (b_of self.old) message (objection_to (b_of self.old) message)).sent }
-        ensures capacity { C.Channel.capacity to_a.new ≡ C.Channel.capacity to_a.old }
+        ensures { ActedSending C.Channel.capacity C.Channel.waiting (on_new (fit_of self.old) message (objection_to (fit_of self.old) message)) result self.old to_a.old self.new to_a.new }
     {
         let tn = message.tn;
         match self.objection(&message) {
             Some(cause) => {
-                send(to_a, Kind::Error, tn, 0, cause.number());
+                post(to_a, Values::numbered(Kind::Error, tn, false, cause));
                 Answer::Rejected { tn, cause }
             }
             None => {
@@ -103,13 +83,16 @@ impl<'m> BSide<'m> {
                 self.store(BRecord {
                     tn,
                     destination: message.destination,
-                    service: Service::of(message.service).meant(),
+                    service: Service::from(message.service).meant(),
                     retention,
                     state: BState::Queued,
                     t7: self.settings.t7 as u16,
                     t9: 0,
                 });
-                send(to_a, Kind::Result, tn, retention as u8, 0);
+                post(
+                    to_a,
+                    Values::numbered(Kind::Result, tn, retention, Cause::NotGiven),
+                );
                 Answer::Stored { tn }
             }
         }
@@ -117,10 +100,7 @@ impl<'m> BSide<'m> {
 
     // A message of a transaction that does not stand.
     fn hear_new<C: Channel>(&mut self, message: Values, to_a: &mut C) -> Answer
-        requires { b_fit (b_of self.old) ≡ true }
-        ensures acted { Acted (on_none (b_of self.old) message message.kind) result self.old self.new }
-        ensures waiting { C.Channel.waiting to_a.new ≡ posts (C.Channel.capacity to_a.old) (C.Channel.waiting to_a.old) (on_none (b_of self.old) message message.kind).sent }
-        ensures capacity { C.Channel.capacity to_a.new ≡ C.Channel.capacity to_a.old }
+        ensures { ActedSending C.Channel.capacity C.Channel.waiting (on_none (fit_of self.old) message message.kind) result self.old to_a.old self.new to_a.new }
     {
         match message.kind {
             Kind::Request => self.request(message, to_a),
@@ -128,74 +108,80 @@ impl<'m> BSide<'m> {
         }
     }
 
-    // Takes a step at a record.
-    fn take_step<C: Channel>(
-        &mut self,
-        mut request: BRecord,
-        message: Values,
-        step: Step,
-        to_a: &mut C,
-    ) -> Answer
-        ensures acted { Acted (stepped (b_of self.old) request message step) result self.old self.new }
-        ensures waiting { C.Channel.waiting to_a.new ≡ posts (C.Channel.capacity to_a.old) (C.Channel.waiting to_a.old) (stepped (b_of self.old) request message step).sent }
-        ensures capacity { C.Channel.capacity to_a.new ≡ C.Channel.capacity to_a.old }
+    // A call on a recall: it takes the line, or finds it busy, and then the record keeps its place or ends.
+    fn called<C: Channel>(&mut self, request: BRecord, to_a: &mut C) -> Answer
+        ensures { ActedSending C.Channel.capacity C.Channel.waiting (called_at (fit_of self.old) request (line (fit_of self.old) request.destination).busy) result self.old to_a.old self.new to_a.new }
     {
         let tn = request.tn;
-        match step {
-            Step::Suspend => {
-                request.state = BState::Suspended;
-                request.t9 = 0;
-                self.update(request);
+        if !self.line(request.destination).busy {
+            let answer = self.end(tn, Cause::Completed);
+            self.turn_line(request.destination, true);
+            post(to_a, Values::plain(Kind::CallDone, tn));
+            answer
+        } else if request.retention {
+            self.update(BRecord {
+                state: BState::Queued,
+                t9: 0,
+                ..request
+            });
+            post(
+                to_a,
+                Values::numbered(Kind::CallBusy, tn, true, Cause::NotGiven),
+            );
+            Answer::Kept { tn }
+        } else {
+            post(
+                to_a,
+                Values::numbered(Kind::CallBusy, tn, false, Cause::NotGiven),
+            );
+            self.end(tn, Cause::BusyAgain)
+        }
+    }
+
+    // A message of a record that stands.
+    fn hear_standing<C: Channel>(
+        &mut self,
+        request: BRecord,
+        message: Values,
+        to_a: &mut C,
+    ) -> Answer
+        ensures { ActedSending C.Channel.capacity C.Channel.waiting (on_record (fit_of self.old) request message message.kind) result self.old to_a.old self.new to_a.new }
+    {
+        let tn = request.tn;
+        match (request.state, message.kind) {
+            (BState::Queued | BState::Recalling, Kind::Suspend) => {
+                self.update(BRecord {
+                    state: BState::Suspended,
+                    t9: 0,
+                    ..request
+                });
                 Answer::Suspended { tn }
             }
-            Step::Resume => {
-                request.state = BState::Queued;
-                self.update(request);
+            (BState::Suspended, Kind::Resume) => {
+                self.update(BRecord {
+                    state: BState::Queued,
+                    ..request
+                });
                 Answer::Resumed { tn }
             }
-            Step::Complete => {
-                let answer = self.end(tn, Cause::Completed);
-                self.turn_line(request.destination, true);
-                send(to_a, Kind::CallDone, tn, 0, 0);
-                answer
-            }
-            Step::Keep => {
-                request.state = BState::Queued;
-                request.t9 = 0;
-                self.update(request);
-                send(to_a, Kind::CallBusy, tn, 1, 0);
-                Answer::Kept { tn }
-            }
-            Step::GiveUp => {
-                send(to_a, Kind::CallBusy, tn, 0, 0);
-                self.end(tn, Cause::BusyAgain)
-            }
-            Step::End => self.end(tn, Cause::of(message.cause)),
-            Step::Pass => Answer::Nothing { tn },
+            (BState::Recalling, Kind::Call) => self.called(request, to_a),
+            (_, Kind::Cancel) => self.end(tn, Cause::from(message.cause)),
+            _ => Answer::Nothing { tn },
         }
     }
 
     fn hear<C: Channel>(&mut self, message: Values, to_a: &mut C) -> Answer
-        requires { b_fit (b_of self.old) ≡ true }
-        ensures acted { Acted (b_receiving (b_of self.old) message) result self.old self.new }
-        ensures waiting { C.Channel.waiting to_a.new ≡ posts (C.Channel.capacity to_a.old) (C.Channel.waiting to_a.old) (b_receiving (b_of self.old) message).sent }
-        ensures capacity { C.Channel.capacity to_a.new ≡ C.Channel.capacity to_a.old }
+        ensures { ActedSending C.Channel.capacity C.Channel.waiting (b_receiving (fit_of self.old) message) result self.old to_a.old self.new to_a.new }
     {
-        let Some(place) = find(self.records.all(), message.tn) else {
-            return self.hear_new(message, to_a);
-        };
-        let request = self.records.all()[place];
-        let busy = self.is_busy(request.destination);
-        let step = step_of(request.state, message.kind, busy, request.retention);
-        self.take_step(request, message, step, to_a)
+        match self.standing(message.tn) {
+            Some(request) => self.hear_standing(request, message, to_a),
+            None => self.hear_new(message, to_a),
+        }
     }
 
     // Receives a message.
     pub(crate) fn receive<C: Channel>(&mut self, message: Values, to_a: &mut C) -> Answer
-        requires { b_fit (b_of self.old) ≡ true }
-        ensures did { Did (accept (b_of self.old) (b_receiving (b_of self.old) message)) result self.old self.new }
-        ensures waiting { C.Channel.waiting to_a.new ≡ posts (C.Channel.capacity to_a.old) (C.Channel.waiting to_a.old) (b_receiving (b_of self.old) message).sent }
-        ensures capacity { C.Channel.capacity to_a.new ≡ C.Channel.capacity to_a.old }
+        ensures { DidSending C.Channel.capacity C.Channel.waiting (accept (fit_of self.old) (b_receiving (fit_of self.old) message)) result self.old to_a.old self.new to_a.new }
     {
         let ran = self.guards();
         let answer = self.hear(message, to_a);
@@ -205,11 +191,10 @@ impl<'m> BSide<'m> {
 
     // A message that came back: its record ends, if it was a result or told that the line is free.
     fn regain(&mut self, message: &Values) -> Answer
-        ensures { Acted (b_returning (b_of self.old) message.now) result self.old self.new }
+        ensures { Acted (b_returning (fit_of self.old) message.now) result self.old self.new }
     {
-        let tn = message.tn;
-        let Some(_) = find(self.records.all(), tn) else {
-            return Answer::Nothing { tn };
+        let Some(BRecord { tn, .. }) = self.standing(message.tn) else {
+            return Answer::Nothing { tn: message.tn };
         };
         if is_awaited(message.kind) {
             self.end(tn, Cause::MessageReturned)
@@ -220,8 +205,7 @@ impl<'m> BSide<'m> {
 
     // Takes a returned message back.
     pub(crate) fn take_back(&mut self, message: &Values) -> Answer
-        requires { b_fit (b_of self.old) ≡ true }
-        ensures { Did (accept (b_of self.old) (b_returning (b_of self.old) message.now)) result self.old self.new }
+        ensures { Did (accept (fit_of self.old) (b_returning (fit_of self.old) message.now)) result self.old self.new }
     {
         let ran = self.guards();
         let answer = self.regain(message);

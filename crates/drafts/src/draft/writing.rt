@@ -35,17 +35,20 @@ impl<const N: usize> Draft<N> {
     }
 
     /// Adds a text; one that does not fit is left out.
+    #[tactic(auto, using(std::proofs::lemmas::Slice::overwrites, crate::proofs::Added::length_written), unfolding(crate::specs::Drafts::added))]
     pub fn push_text(&mut self, text: &[u8])
         ensures { written self.new ≡ added N (written self.old) text.now }
     {
         if text.len() <= N - self.len {
-            for byte in text {
-                self.push(*byte);
-            }
+            let end = self.len + text.len();
+            let bytes = &mut self.bytes[..];
+            bytes[self.len..end].copy_from_slice(text);
+            self.len = end;
         }
     }
 
     /// Adds a byte; one that does not fit is left out.
+    #[tactic(auto, using(crate::proofs::Added::length_written), unfolding(crate::specs::Drafts::added))]
     pub fn push(&mut self, byte: u8)
         ensures { written self.new ≡ added N (written self.old) (byte ∷ []) }
     {

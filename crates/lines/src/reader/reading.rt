@@ -3,21 +3,18 @@ ghost use Rattle.lines.specs.Readings.{agree, text_at, letter_at, number_at, fie
 ghost use Rattle.lines.specs.Results.{on_ok};
 ghost use Rattle.lines.specs.Tokens.{seen, value_in};
 
-use crate::fault::{Fault, LineFault, Under};
+use crate::fault::{Fault, Keyed, LineFault, Under};
 use crate::number::{Numeral, numeral_at};
 use crate::reader::Reader;
 use crate::token::Token;
+use std::slice;
 
 // How many bytes of the text stand in front of the rest.
 fn agreeing(text: &[u8], rest: &[u8]) -> usize
     ensures value { result ≡ agree text.now rest.now }
     ensures within { (result ≤ length text.now) × (result ≤ length rest.now) }
 {
-    let mut n = 0;
-    while n < text.len() && n < rest.len() && text[n] == rest[n] {
-        n += 1;
-    }
-    n
+    text.iter().zip(rest).take_while(|(c, b)| c == b).count()
 }
 
 impl<'a> Reader<'a> {
@@ -30,14 +27,13 @@ impl<'a> Reader<'a> {
     }
 
     /// Passes the text that belongs here, a separator and a key with its `=`.
+    #[tactic(auto, using(std::proofs::lemmas::List::take_rest), unfolding(crate::specs::Readings::text_at))]
     pub fn text<K: Drop>(&mut self, key: K, text: &[u8]) -> Result<(), LineFault<K>>
-        ensures value { Passed (text_at key text.now) self.old result self.new }
-        ensures line { line_in self.new ≡ line_in self.old }
+        ensures { Passed (text_at key text.now) self.old result self.new }
     {
-        let line = self.line;
-        let same = agreeing(text, &line[self.at..]);
+        let same = agreeing(text, &self.line[self.at..]);
         if same < text.len() {
-            return Err(LineFault {
+            return Err(Keyed {
                 key,
                 fault: Fault::Text { at: self.at + same },
             });
@@ -47,43 +43,38 @@ impl<'a> Reader<'a> {
     }
 
     /// Hands out the byte that stands here, whatever it is.
+    #[tactic(auto, unfolding(crate::specs::Readings::letter_at))]
     pub fn letter<K: Drop>(&mut self, key: K) -> Result<Token<'a>, LineFault<K>>
-        ensures value { Handed (letter_at key) self.old (on_ok seen result) self.new }
-        ensures line { line_in self.new ≡ line_in self.old }
+        ensures { Handed (letter_at key) self.old (on_ok seen result) self.new }
     {
-        let line = self.line;
         let at = self.at;
-        if at < line.len() {
-            self.at += 1;
-            return Ok(Token::Word {
-                text: &line[at..at + 1],
-                at,
-            });
-        }
-        Err(LineFault {
-            key,
-            fault: Fault::Text { at },
+        let fault = Fault::Text { at };
+        let letter = self.line.get(at).ok_or(Keyed { key, fault })?;
+        self.at += 1;
+        Ok(Token::Word {
+            text: slice::from_ref(letter),
+            at,
         })
     }
 
     /// Hands out the number that stands here, which may be `most` at most.
+    #[tactic(auto, unfolding(crate::specs::Readings::number_at))]
     pub fn number<K: Drop>(&mut self, key: K, most: u32) -> Result<Token<'a>, LineFault<K>>
         ensures value { Handed (number_at key most) self.old (on_ok seen result) self.new }
-        ensures line { line_in self.new ≡ line_in self.old }
         ensures within { IfOk result (λ token. value_in (seen token) ≤ most) }
     {
-        let line = self.line;
         let at = self.at;
-        let Numeral { value, end } = numeral_at(line, at, most).under(key)?;
+        let Numeral { value, end } = numeral_at(self.line, at, most).under(key)?;
         self.at = end;
         Ok(Token::Number {
-            digits: &line[at..end],
+            digits: &self.line[at..end],
             value,
             at,
         })
     }
 
     /// Passes the text and hands out the number after it: a field with its separator.
+    #[tactic(auto, unfolding(crate::specs::Readings::field_at))]
     pub fn field<K: Copy>(
         &mut self,
         key: K,
@@ -91,7 +82,6 @@ impl<'a> Reader<'a> {
         most: u32,
     ) -> Result<Token<'a>, LineFault<K>>
         ensures value { Handed (field_at key text.now most) self.old (on_ok seen result) self.new }
-        ensures line { line_in self.new ≡ line_in self.old }
         ensures within { IfOk result (λ token. value_in (seen token) ≤ most) }
     {
         let mut ahead = *self;
@@ -102,22 +92,18 @@ impl<'a> Reader<'a> {
     }
 
     /// Finds the newline here, and nothing after it.
+    #[tactic(auto, unfolding(crate::specs::Readings::end_at))]
     pub fn end<K: Drop>(&self, key: K) -> Result<(), LineFault<K>>
         ensures { result ≡ end_at key self.now.at (line_in self.now) }
     {
-        let at = self.at;
-        if at == self.line.len() || self.line[at] != b'\n' {
-            return Err(LineFault {
-                key,
-                fault: Fault::End { at },
-            });
-        }
-        if at + 1 < self.line.len() {
-            return Err(LineFault {
-                key,
-                fault: Fault::End { at: at + 1 },
-            });
-        }
-        Ok(())
+        let at = match &self.line[self.at..] {
+            [b'\n'] => return Ok(()),
+            [b'\n', ..] => self.at + 1,
+            _ => self.at,
+        };
+        Err(Keyed {
+            key,
+            fault: Fault::End { at },
+        })
     }
 }

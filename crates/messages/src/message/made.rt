@@ -17,8 +17,7 @@ fn is_lawful(values: &Values) -> bool
         && values.destination <= limits.party
         && values.service <= limits.service
         && values.retention <= limits.retention
-        && values.cause >= limits.least_cause
-        && values.cause <= limits.most_cause
+        && (limits.least_cause..=limits.most_cause).contains(&values.cause)
 }
 
 impl Message {

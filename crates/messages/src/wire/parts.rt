@@ -1,5 +1,5 @@
 ghost use Rattle.std.specs.Prelude.{◌≡◌, ◌≤◌, length, IfOk};
-ghost use Rattle.lines.specs.Readings.{Handed, line_in};
+ghost use Rattle.lines.specs.Readings.{Handed};
 ghost use Rattle.lines.specs.Results.{on_ok};
 ghost use Rattle.lines.specs.Tokens.{seen, value_in};
 ghost use Rattle.messages.specs.Wire.{key_most};
@@ -8,10 +8,10 @@ ghost use Rattle.messages.specs.Parts.{kind_at, field_of, parts_seen, parts_of};
 use crate::kind::Kind;
 use crate::values::Values;
 use crate::wire::key::Key;
-use lines::{Fault, LineFault, Reader, Token};
+use lines::{Fault, Keyed, LineFault, Reader, Token};
 
 /// A wire line taken apart: its seven values, and the part of the line that each fills.
-#[derive(Clone, Copy)]
+#[derive(Clone, Copy, Debug, PartialEq, Eq)]
 pub struct Parts<'a> {
     pub values: Values,
     pub kind: Token<'a>,
@@ -24,22 +24,20 @@ pub struct Parts<'a> {
 }
 
 // The kind whose letter the token is.
+#[tactic(auto, using(lines::proofs::Results::err_mapped), unfolding(crate::specs::Parts::kind_at))]
 fn kind_in(letter: Token<'_>) -> Result<Kind, LineFault<Key>>
     ensures { result ≡ kind_at (seen letter.entry) }
 {
-    match Kind::of(letter.first()) {
-        Some(kind) => Ok(kind),
-        None => Err(LineFault {
-            key: Key::Kind,
-            fault: Fault::Text { at: letter.place() },
-        }),
-    }
+    let fault = Fault::Text { at: letter.place() };
+    Kind::try_from(letter.first()).map_err(|_| Keyed {
+        key: Key::Kind,
+        fault,
+    })
 }
 
 // The number under a key.
 fn field<'a>(reader: &mut Reader<'a>, key: Key) -> Result<Token<'a>, LineFault<Key>>
     ensures value { Handed (field_of key) reader.old (on_ok seen result) reader.new }
-    ensures line { line_in reader.new ≡ line_in reader.old }
     ensures within { IfOk result (λ token. value_in (seen token) ≤ key_most key) }
 {
     reader.field(key, key.text(), key.most())

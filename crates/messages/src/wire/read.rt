@@ -14,10 +14,7 @@ fn decode(line: &[u8]) -> Result<Message, Unread>
     ensures { said result ≡ reading_of line.now }
 {
     let parts = take_apart(line)?;
-    match Message::new(parts.values) {
-        Ok(message) => Ok(message),
-        Err(_) => Err(Unread::NotLawful),
-    }
+    Message::new(parts.values).map_err(|_| Unread::NotLawful)
 }
 
 /// The message that a wire line says; denied with 15 if the bytes are no line, with 14 if their values are not lawful.

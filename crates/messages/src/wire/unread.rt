@@ -7,7 +7,7 @@ use answers::Denial;
 use lines::LineFault;
 
 /// Why bytes are no message.
-#[derive(Clone, Copy)]
+#[derive(Clone, Copy, Debug, PartialEq, Eq)]
 pub enum Unread {
     /// 14: a line, but its seven values are no lawful message.
     NotLawful,
@@ -15,12 +15,11 @@ pub enum Unread {
     NotALine(LineFault<Key>),
 }
 
-impl Unread {
-    /// The denial, 14 or 15.
-    pub fn denial(&self) -> Denial
-        ensures { result ≡ unread_denial self.now }
-    {
-        match self {
+impl From<Unread> for Denial {
+    ghost from_gives = { λ unread denial. denial ≡ unread_denial unread };
+
+    fn from(unread: Unread) -> Denial {
+        match unread {
             Unread::NotLawful => Denial::NotLawful,
             Unread::NotALine(_) => Denial::NotALine,
         }

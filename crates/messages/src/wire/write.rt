@@ -18,13 +18,14 @@ fn push_field(line: &mut Draft<LONGEST>, key: Key, number: u32)
 }
 
 /// The wire line of a message.
+#[tactic(auto, using(crate::proofs::Pieces::pieces_fit))]
 pub fn write(message: &Message) -> Draft<LONGEST>
     ensures { written result ≡ line_of message.now.values }
 {
     let values = message.values();
     let mut line = Draft::new();
     line.push_text(Key::Kind.text());
-    line.push(values.kind.letter());
+    line.push(u8::from(values.kind));
     push_field(&mut line, Key::Tn, values.tn);
     push_field(&mut line, Key::A, u32::from(values.user));
     push_field(&mut line, Key::B, u32::from(values.destination));

@@ -1,82 +1,74 @@
 // What accepted calls do of their own, before the resumption.
-ghost use Rattle.std.specs.Prelude.{◌≡◌, true, false, [], ◌∷◌, length, nat_le};
+ghost use Rattle.std.specs.Prelude.{◌≡◌, true, false, [], ◌∷◌, length, nat_le, Some};
 ghost use Rattle.answers.specs.declared.answer.Answer.TheVariants.{Suspended};
+ghost use Rattle.messages.specs.Services.{service_number};
 ghost use Rattle.messages.specs.Sent.{plain as plainly};
 ghost use Rattle.tables.specs.Tables.{became};
-ghost use Rattle.a_side.specs.Rules.{a_due, a_fit, becomes, does, line_busy, activating, withdrawing, answering_one, a_expiring_one};
-ghost use Rattle.originating.specs.Calls.{a_of};
+ghost use Rattle.a_side.specs.Rules.{a_due, becomes, does, line_busy, activating, withdrawing, answering_one, a_expiring_one};
+ghost use Rattle.originating.specs.Calls.{fit_of};
 ghost use Rattle.originating.specs.Steps.{Did};
 
-use crate::sent::{cancelling, plain};
-use crate::side::ASide;
+use crate::side::Fit;
 use a_side::{ARecord, AState};
 use answers::{Answer, Cause};
 use channels::{Channel, post};
 use messages::{Kind, Service, Values};
 
-impl<'m> ASide<'m> {
+impl Fit<'_> {
     // Makes a record of the next number, and sends the request.
     pub(super) fn request<C: Channel>(
         &mut self,
         to_b: &mut C,
         user: u8,
         destination: u8,
-        service: u8,
+        service: Service,
         tn: u32,
     ) -> Answer
-        requires fit { a_fit (a_of self.old) ≡ true }
-        requires place { nat_le (a_of self.old).places (length (a_of self.old).records) ≡ false }
-        requires number { tn ≡ self.old.next }
-        ensures did { Did (activating (a_of self.old) user destination service) (C.Channel.capacity to_b.old) (C.Channel.waiting to_b.old) result self.old self.new (C.Channel.waiting to_b.new) }
-        ensures capacity { C.Channel.capacity to_b.new ≡ C.Channel.capacity to_b.old }
+        requires place { nat_le (fit_of self.old).places (length (fit_of self.old).records) ≡ false }
+        requires number { self.old.next ≡ Some tn }
+        ensures { Did C.Channel.capacity C.Channel.waiting (activating (fit_of self.old) user destination (service_number service)) result self.old to_b.old self.new to_b.new }
     {
         let settings = self.settings;
         let _ = self.records.put(ARecord {
             tn,
             user,
             destination,
-            service: Service::of(service),
+            service,
             state: AState::Requested,
             t2: settings.t2 as u16,
             t3: 0,
             t4: 0,
         });
-        self.next = tn as u64 + 1;
-        let request = Values {
-            user,
-            destination,
-            service,
-            retention: settings.ra as u8,
-            ..plain(Kind::Request, tn)
-        };
-        post(to_b, request);
+        self.next = tn.checked_add(1);
+        let retention = settings.ra == 1;
+        post(
+            to_b,
+            Values::requesting(tn, user, destination, service, retention),
+        );
         Answer::Requested { tn }
     }
 
     pub(super) fn cancel<C: Channel>(&mut self, to_b: &mut C, tn: u32) -> Answer
-        ensures did { Did (withdrawing (a_of self.old) tn) (C.Channel.capacity to_b.old) (C.Channel.waiting to_b.old) result self.old self.new (C.Channel.waiting to_b.new) }
-        ensures capacity { C.Channel.capacity to_b.new ≡ C.Channel.capacity to_b.old }
+        ensures { Did C.Channel.capacity C.Channel.waiting (withdrawing (fit_of self.old) tn) result self.old to_b.old self.new to_b.new }
     {
-        post(to_b, cancelling(tn, 0));
+        post(to_b, Values::cancelling(tn, Cause::NotGiven));
         self.end(tn, Cause::Withdrawn)
     }
 
     pub(super) fn suspend<C: Channel>(&mut self, to_b: &mut C, request: ARecord) -> Answer
-        ensures did { Did (does (a_of self.old) (Suspended request.tn) (became (becomes AState.Suspended request)) (plainly Kind.Suspend request.tn ∷ [])) (C.Channel.capacity to_b.old) (C.Channel.waiting to_b.old) result self.old self.new (C.Channel.waiting to_b.new) }
-        ensures capacity { C.Channel.capacity to_b.new ≡ C.Channel.capacity to_b.old }
+        ensures { Did C.Channel.capacity C.Channel.waiting (does (fit_of self.old) (Suspended request.tn) (became (becomes AState.Suspended request)) (plainly Kind.Suspend request.tn ∷ [])) result self.old to_b.old self.new to_b.new }
     {
         self.update(ARecord {
             state: AState::Suspended,
             ..request
         });
-        post(to_b, plain(Kind::Suspend, request.tn));
+        post(to_b, Values::plain(Kind::Suspend, request.tn));
         Answer::Suspended { tn: request.tn }
     }
 
     // Answers the recall of a record, by whether the user's line is busy.
     pub(super) fn answer<C: Channel>(&mut self, to_b: &mut C, request: ARecord) -> Answer
-        ensures did { Did (answering_one (a_of self.old) request (line_busy (a_of self.old) request.user)) (C.Channel.capacity to_b.old) (C.Channel.waiting to_b.old) result self.old self.new (C.Channel.waiting to_b.new) }
-        ensures capacity { C.Channel.capacity to_b.new ≡ C.Channel.capacity to_b.old }
+        ensures { Did C.Channel.capacity C.Channel.waiting (answering_one (fit_of self.old) request (line_busy (fit_of self.old) request.user)) result self.old to_b.old self.new to_b.new }
     {
         let tn = request.tn;
         if self.is_line_busy(request.user) {
@@ -87,7 +79,7 @@ impl<'m> ASide<'m> {
                 t4: 0,
                 ..request
             });
-            post(to_b, plain(Kind::Call, tn));
+            post(to_b, Values::plain(Kind::Call, tn));
             Answer::Calling { tn }
         }
     }
@@ -95,20 +87,18 @@ impl<'m> ASide<'m> {
     // Ends a record whose timer is over.
     pub(super) fn expire<C: Channel>(&mut self, to_b: &mut C, request: ARecord) -> Answer
         requires { a_due request ≡ true }
-        ensures did { Did (a_expiring_one (a_of self.old) request) (C.Channel.capacity to_b.old) (C.Channel.waiting to_b.old) result self.old self.new (C.Channel.waiting to_b.new) }
-        ensures capacity { C.Channel.capacity to_b.new ≡ C.Channel.capacity to_b.old }
+        ensures { Did C.Channel.capacity C.Channel.waiting (a_expiring_one (fit_of self.old) request) result self.old to_b.old self.new to_b.new }
     {
         let tn = request.tn;
-        match request.state {
-            AState::Requested => self.end(tn, Cause::ShortTermDenial),
-            _ if request.t3 == 0 => {
-                post(to_b, cancelling(tn, 1));
-                self.end(tn, Cause::T3Over)
-            }
-            _ => {
-                post(to_b, cancelling(tn, 2));
-                self.end(tn, Cause::T4Over)
-            }
+        if request.state == AState::Requested {
+            return self.end(tn, Cause::ShortTermDenial);
         }
+        let cause = if request.t3 == 0 {
+            Cause::T3Over
+        } else {
+            Cause::T4Over
+        };
+        post(to_b, Values::cancelling(tn, cause));
+        self.end(tn, cause)
     }
 }

@@ -1,12 +1,13 @@
-// The calls: each decides, does what it does of its own, and resumes last.
+// The calls of the originating side: each decides, then acts, and resumes last where records may now be resumed.
 ghost use Rattle.std.specs.Prelude.{◌≡◌, length};
 ghost use Rattle.a_side.specs.Rules.{a_fresh};
 ghost use Rattle.originating.specs.Calls.{a_of, a_memory, Came, CameSending, activated, withdrawn, recall_answered, line_taken, line_freed, aged, expired};
 
-use crate::side::ASide;
-use a_side::{ARecord, ASettings};
+use crate::side::rows::{MOST_SENT, check_party};
+use crate::side::{ASide, Fit, Unfit};
+use a_side::{ARecord, ASettings, examine};
 use answers::{Answer, Denial};
-use channels::Channel;
+use channels::{Channel, check_room, check_sized};
 use waiting_line::{Timed, WaitingLine};
 
 impl<'m> ASide<'m> {
@@ -15,12 +16,17 @@ impl<'m> ASide<'m> {
         ensures side { a_of result ≡ a_fresh settings (length memory.old) }
         ensures memory { a_memory result ≡ memory.old }
     {
-        ASide {
-            settings,
-            next: settings.first as u64,
-            busy: [false; 64],
-            records: WaitingLine::new(memory),
-        }
+        let side = if examine(&settings, memory.len()).is_ok() {
+            Ok(Fit {
+                settings,
+                next: Some(settings.first),
+                busy: [false; 64],
+                records: WaitingLine::new(memory),
+            })
+        } else {
+            Err(Unfit { settings, memory })
+        };
+        ASide { side }
     }
 
     /// A user asks to be called back when a destination falls free.
@@ -31,12 +37,14 @@ impl<'m> ASide<'m> {
         destination: u8,
         service: u8,
     ) -> Result<Answer, Denial>
-        ensures came { CameSending (activated (a_of self.old) (C.Channel.capacity to_b.old) (C.Channel.waiting to_b.old) user destination service) result self.old self.new (C.Channel.waiting to_b.new) }
-        ensures capacity { C.Channel.capacity to_b.new ≡ C.Channel.capacity to_b.old }
+        ensures { CameSending C.Channel.capacity C.Channel.waiting (activated user destination service) result self.old to_b.old self.new to_b.new }
     {
-        let tn = self.may_activate(to_b, user, destination, service)?;
-        let answer = self.request(to_b, user, destination, service, tn);
-        self.resume(to_b);
+        let Ok(side) = &mut self.side else {
+            return Err(Denial::OutOfRange);
+        };
+        let (tn, service) = side.may_activate(to_b, user, destination, service)?;
+        let answer = side.request(to_b, user, destination, service, tn);
+        side.resume(to_b);
         Ok(answer)
     }
 
@@ -47,12 +55,14 @@ impl<'m> ASide<'m> {
         user: u8,
         tn: u32,
     ) -> Result<Answer, Denial>
-        ensures came { CameSending (withdrawn (a_of self.old) (C.Channel.capacity to_b.old) (C.Channel.waiting to_b.old) user tn) result self.old self.new (C.Channel.waiting to_b.new) }
-        ensures capacity { C.Channel.capacity to_b.new ≡ C.Channel.capacity to_b.old }
+        ensures { CameSending C.Channel.capacity C.Channel.waiting (withdrawn user tn) result self.old to_b.old self.new to_b.new }
     {
-        self.may_withdraw(to_b, user, tn)?;
-        let answer = self.cancel(to_b, tn);
-        self.resume(to_b);
+        let Ok(side) = &mut self.side else {
+            return Err(Denial::OutOfRange);
+        };
+        side.may_withdraw(to_b, user, tn)?;
+        let answer = side.cancel(to_b, tn);
+        side.resume(to_b);
         Ok(answer)
     }
 
@@ -63,32 +73,41 @@ impl<'m> ASide<'m> {
         user: u8,
         tn: u32,
     ) -> Result<Answer, Denial>
-        ensures came { CameSending (recall_answered (a_of self.old) (C.Channel.capacity to_b.old) (C.Channel.waiting to_b.old) user tn) result self.old self.new (C.Channel.waiting to_b.new) }
-        ensures capacity { C.Channel.capacity to_b.new ≡ C.Channel.capacity to_b.old }
+        ensures { CameSending C.Channel.capacity C.Channel.waiting (recall_answered user tn) result self.old to_b.old self.new to_b.new }
     {
-        let request = self.may_answer(to_b, user, tn)?;
-        let answer = self.answer(to_b, request);
-        self.resume(to_b);
+        let Ok(side) = &mut self.side else {
+            return Err(Denial::OutOfRange);
+        };
+        let request = side.may_answer(to_b, user, tn)?;
+        let answer = side.answer(to_b, request);
+        side.resume(to_b);
         Ok(answer)
     }
 
     /// A user's line becomes busy.
     pub fn line_busy(&mut self, user: u8) -> Result<Answer, Denial>
-        ensures { Came (line_taken (a_of self.old) user) result self.old self.new }
+        ensures { Came (line_taken user (a_of self.old)) result self.old self.new }
     {
-        self.may_busy(user)?;
-        self.set_line(user, true);
+        let Ok(side) = &mut self.side else {
+            return Err(Denial::OutOfRange);
+        };
+        check_party(user)?;
+        side.set_line(user, true);
         Ok(Answer::Done)
     }
 
     /// A user's line becomes idle.
     pub fn line_free<C: Channel>(&mut self, to_b: &mut C, user: u8) -> Result<Answer, Denial>
-        ensures came { CameSending (line_freed (a_of self.old) (C.Channel.capacity to_b.old) (C.Channel.waiting to_b.old) user) result self.old self.new (C.Channel.waiting to_b.new) }
-        ensures capacity { C.Channel.capacity to_b.new ≡ C.Channel.capacity to_b.old }
+        ensures { CameSending C.Channel.capacity C.Channel.waiting (line_freed user) result self.old to_b.old self.new to_b.new }
     {
-        self.may_free(to_b, user)?;
-        self.set_line(user, false);
-        self.resume(to_b);
+        let Ok(side) = &mut self.side else {
+            return Err(Denial::OutOfRange);
+        };
+        check_sized(to_b)?;
+        check_party(user)?;
+        check_room(to_b, MOST_SENT)?;
+        side.set_line(user, false);
+        side.resume(to_b);
         Ok(Answer::Done)
     }
 
@@ -96,19 +115,24 @@ impl<'m> ASide<'m> {
     pub fn tick(&mut self) -> Result<Answer, Denial>
         ensures { Came (aged (a_of self.old)) result self.old self.new }
     {
-        self.may_tick()?;
-        self.records.tick();
+        let Ok(side) = &mut self.side else {
+            return Err(Denial::OutOfRange);
+        };
+        side.may_tick()?;
+        side.records.tick();
         Ok(Answer::Done)
     }
 
     /// Handles one timer at 0: of the first record that is due, T3 before T4.
     pub fn expiry<C: Channel>(&mut self, to_b: &mut C) -> Result<Answer, Denial>
-        ensures came { CameSending (expired (a_of self.old) (C.Channel.capacity to_b.old) (C.Channel.waiting to_b.old)) result self.old self.new (C.Channel.waiting to_b.new) }
-        ensures capacity { C.Channel.capacity to_b.new ≡ C.Channel.capacity to_b.old }
+        ensures { CameSending C.Channel.capacity C.Channel.waiting expired result self.old to_b.old self.new to_b.new }
     {
-        let request = self.may_expire(to_b)?;
-        let answer = self.expire(to_b, request);
-        self.resume(to_b);
+        let Ok(side) = &mut self.side else {
+            return Err(Denial::OutOfRange);
+        };
+        let request = side.may_expire(to_b)?;
+        let answer = side.expire(to_b, request);
+        side.resume(to_b);
         Ok(answer)
     }
 }

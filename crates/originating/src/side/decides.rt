@@ -1,95 +1,79 @@
-// What each call decides first: the rows of denials that apply to it, in their order.
-ghost use Rattle.std.specs.Prelude.{◌≡◌, not, ◌||◌, IfOk, Some};
+// What the calls that look at records decide first: the rows of denials that apply to each, in their order.
+ghost use Rattle.std.specs.Prelude.{◌≡◌, not, IfOk, Some};
 ghost use Rattle.answers.specs.declared.denial.Denial.TheVariants.{NotStanding};
-ghost use Rattle.answers.specs.Rows.{row};
+ghost use Rattle.answers.specs.Rows.{denied, row};
+ghost use Rattle.messages.specs.Services.{service_number};
 ghost use Rattle.tables.specs.Tables.{first_by};
-ghost use Rattle.a_side.specs.Rules.{a_due, standing as standing_record, stands_for, activate_refusal, withdraw_refusal, answer_refusal, line_busy_refusal, line_free_refusal, a_tick_refusal, a_expiry_refusal};
-ghost use Rattle.originating.specs.Calls.{a_of};
-ghost use Rattle.originating.specs.Steps.{refusal};
+ghost use Rattle.a_side.specs.Rules.{a_due, standing, stands_for, user_full, activate_refusal, withdraw_refusal, answer_refusal, a_tick_refusal, a_expiry_refusal};
+ghost use Rattle.originating.specs.Calls.{fit_of};
 
-use crate::looks::{count_of, has_same, is_recalled};
-use crate::side::ASide;
-use crate::side::tests::{is_short_of_five, is_unknown};
-use a_side::ARecord;
+use crate::looks::{count_of, has_same};
+use crate::side::Fit;
+use crate::side::rows::{MOST_SENT, check_party};
+use a_side::{ARecord, AState};
 use answers::Denial;
-use channels::Channel;
+use channels::{Channel, check_room, check_sized};
 use messages::Service;
-use waiting_line::{any_due, find, first_due};
+use waiting_line::any_due;
 
-impl<'m> ASide<'m> {
-    // The number that an activation gets.
+impl Fit<'_> {
+    // Whether the user has as many records as one may have.
+    fn is_full_for(&self, user: u8) -> bool
+        ensures { result ≡ user_full (fit_of self.now) user }
+    {
+        count_of(self.records.all(), user) >= self.settings.la as usize
+    }
+
+    // The number and the service that an activation gets.
     pub(super) fn may_activate<C: Channel>(
         &self,
         to_b: &C,
         user: u8,
         destination: u8,
         service: u8,
-    ) -> Result<u32, Denial>
-        ensures refusal { refusal result ≡ activate_refusal (a_of self.now) (C.Channel.capacity to_b.now) (C.Channel.waiting to_b.now) user destination service }
-        ensures number { IfOk result (λ n. n ≡ self.now.next) }
+    ) -> Result<(u32, Service), Denial>
+        ensures refusal { denied result ≡ activate_refusal (fit_of self.now) (C.Channel.capacity to_b.now) (C.Channel.waiting to_b.now) user destination service }
+        ensures number { IfOk result (λ p. self.now.next ≡ Some p.0) }
+        ensures service { IfOk result (λ p. service_number p.1 ≡ service) }
     {
-        if self.is_unfit_for(to_b) {
-            return Err(Denial::OutOfRange);
-        }
-        if is_unknown(user) || is_unknown(destination) {
-            return Err(Denial::NoSuchParty);
-        }
+        check_sized(to_b)?;
+        check_party(user)?;
+        check_party(destination)?;
         if service > 3 {
             return Err(Denial::AboveThree);
         }
-        if has_same(self.records.all(), user, destination, Service::of(service)) {
+        let service = Service::from(service);
+        if has_same(self.records.all(), user, destination, service) {
             return Err(Denial::Identical);
         }
-        if count_of(self.records.all(), user) >= self.settings.la as usize {
+        if self.is_full_for(user) {
             return Err(Denial::UserFull);
         }
         if self.records.is_full() {
             return Err(Denial::NoRecordPlace);
         }
-        if self.next > 4294967295 {
-            return Err(Denial::NoNumberLeft);
-        }
-        if is_short_of_five(to_b) {
-            return Err(Denial::NoFreePlace);
-        }
-        Ok(self.next as u32)
-    }
-
-    // The record of a transaction.
-    pub(super) fn standing(&self, tn: u32) -> Option<ARecord>
-        ensures { result ≡ standing_record tn (a_of self.now) }
-    {
-        let Some(place) = find(self.records.all(), tn) else {
-            return None;
-        };
-        Some(self.records.all()[place])
+        let tn = self.next.ok_or(Denial::NoNumberLeft)?;
+        check_room(to_b, MOST_SENT)?;
+        Ok((tn, service))
     }
 
     // The record of a transaction that stands for this user.
     fn standing_for(&self, user: u8, tn: u32) -> Result<ARecord, Denial>
-        ensures refusal { refusal result ≡ row (not (stands_for (a_of self.now) user tn)) NotStanding }
-        ensures found { IfOk result (λ x. standing_record tn (a_of self.now) ≡ Some x) }
+        ensures refusal { denied result ≡ row (not (stands_for (fit_of self.now) user tn)) NotStanding }
+        ensures found { IfOk result (λ x. standing tn (fit_of self.now) ≡ Some x) }
     {
-        match self.standing(tn) {
-            Some(request) if request.user == user => Ok(request),
-            _ => Err(Denial::NotStanding),
-        }
+        tables::standing(self.records.all(), tn)
+            .filter(|request| request.user == user)
+            .ok_or(Denial::NotStanding)
     }
 
     pub(super) fn may_withdraw<C: Channel>(&self, to_b: &C, user: u8, tn: u32) -> Result<(), Denial>
-        ensures { refusal result ≡ withdraw_refusal (a_of self.now) (C.Channel.capacity to_b.now) (C.Channel.waiting to_b.now) user tn }
+        ensures { denied result ≡ withdraw_refusal (fit_of self.now) (C.Channel.capacity to_b.now) (C.Channel.waiting to_b.now) user tn }
     {
-        if self.is_unfit_for(to_b) {
-            return Err(Denial::OutOfRange);
-        }
-        if is_unknown(user) {
-            return Err(Denial::NoSuchParty);
-        }
+        check_sized(to_b)?;
+        check_party(user)?;
         self.standing_for(user, tn)?;
-        if is_short_of_five(to_b) {
-            return Err(Denial::NoFreePlace);
-        }
-        Ok(())
+        check_room(to_b, MOST_SENT)
     }
 
     // The record whose recall is answered.
@@ -99,58 +83,22 @@ impl<'m> ASide<'m> {
         user: u8,
         tn: u32,
     ) -> Result<ARecord, Denial>
-        ensures refusal { refusal result ≡ answer_refusal (a_of self.now) (C.Channel.capacity to_b.now) (C.Channel.waiting to_b.now) user tn }
-        ensures found { IfOk result (λ x. standing_record tn (a_of self.now) ≡ Some x) }
+        ensures refusal { denied result ≡ answer_refusal (fit_of self.now) (C.Channel.capacity to_b.now) (C.Channel.waiting to_b.now) user tn }
+        ensures found { IfOk result (λ x. standing tn (fit_of self.now) ≡ Some x) }
     {
-        if self.is_unfit_for(to_b) {
-            return Err(Denial::OutOfRange);
-        }
-        if is_unknown(user) {
-            return Err(Denial::NoSuchParty);
-        }
+        check_sized(to_b)?;
+        check_party(user)?;
         let request = self.standing_for(user, tn)?;
-        if !is_recalled(request.state) {
+        if request.state != AState::Recalled {
             return Err(Denial::NotRecalled);
         }
-        if is_short_of_five(to_b) {
-            return Err(Denial::NoFreePlace);
-        }
+        check_room(to_b, MOST_SENT)?;
         Ok(request)
     }
 
-    pub(super) fn may_busy(&self, user: u8) -> Result<(), Denial>
-        ensures { refusal result ≡ line_busy_refusal (a_of self.now) user }
-    {
-        if self.is_unfit() {
-            return Err(Denial::OutOfRange);
-        }
-        if is_unknown(user) {
-            return Err(Denial::NoSuchParty);
-        }
-        Ok(())
-    }
-
-    pub(super) fn may_free<C: Channel>(&self, to_b: &C, user: u8) -> Result<(), Denial>
-        ensures { refusal result ≡ line_free_refusal (a_of self.now) (C.Channel.capacity to_b.now) (C.Channel.waiting to_b.now) user }
-    {
-        if self.is_unfit_for(to_b) {
-            return Err(Denial::OutOfRange);
-        }
-        if is_unknown(user) {
-            return Err(Denial::NoSuchParty);
-        }
-        if is_short_of_five(to_b) {
-            return Err(Denial::NoFreePlace);
-        }
-        Ok(())
-    }
-
     pub(super) fn may_tick(&self) -> Result<(), Denial>
-        ensures { refusal result ≡ a_tick_refusal (a_of self.now) }
+        ensures { denied result ≡ a_tick_refusal (fit_of self.now) }
     {
-        if self.is_unfit() {
-            return Err(Denial::OutOfRange);
-        }
         if any_due(self.records.all()) {
             return Err(Denial::TimerDue);
         }
@@ -158,19 +106,14 @@ impl<'m> ASide<'m> {
     }
 
     // The first record that is due.
+    #[tactic(auto, using(tables::proofs::Dues::is_some_find))]
     pub(super) fn may_expire<C: Channel>(&self, to_b: &C) -> Result<ARecord, Denial>
-        ensures refusal { refusal result ≡ a_expiry_refusal (a_of self.now) (C.Channel.capacity to_b.now) (C.Channel.waiting to_b.now) }
-        ensures due { IfOk result (λ x. first_by a_due (a_of self.now).records ≡ Some x) }
+        ensures refusal { denied result ≡ a_expiry_refusal (fit_of self.now) (C.Channel.capacity to_b.now) (C.Channel.waiting to_b.now) }
+        ensures due { IfOk result (λ x. first_by a_due (fit_of self.now).records ≡ Some x) }
     {
-        if self.is_unfit_for(to_b) {
-            return Err(Denial::OutOfRange);
-        }
-        let Some(place) = first_due(self.records.all()) else {
-            return Err(Denial::NoneDue);
-        };
-        if is_short_of_five(to_b) {
-            return Err(Denial::NoFreePlace);
-        }
-        Ok(self.records.all()[place])
+        check_sized(to_b)?;
+        let request = tables::due(self.records.all()).ok_or(Denial::NoneDue)?;
+        check_room(to_b, MOST_SENT)?;
+        Ok(request)
     }
 }

@@ -1,49 +1,48 @@
 // What an arriving or a returned message does, before the resumption.
-ghost use Rattle.std.specs.Prelude.{◌≡◌, true};
-ghost use Rattle.a_side.specs.Rules.{a_fit, on_record, on_stray, on_returned, a_receiving, a_returning};
-ghost use Rattle.originating.specs.Calls.{a_of};
+ghost use Rattle.std.specs.Prelude.{◌≡◌};
+ghost use Rattle.a_side.specs.Rules.{ccbs_busy, on_free_waiting, on_record, on_stray, on_returned, a_receiving, a_returning};
+ghost use Rattle.originating.specs.Calls.{fit_of};
 ghost use Rattle.originating.specs.Steps.{Did};
 
-use crate::sent::cancelling;
-use crate::side::ASide;
+use crate::side::Fit;
 use a_side::{ARecord, AState};
 use answers::{Answer, Cause};
 use channels::{Channel, post};
 use messages::{Kind, Message, Values};
-use waiting_line::find;
 
-impl<'m> ASide<'m> {
+impl Fit<'_> {
+    // Calls the user of a waiting record back, whose destination is free; that of a CCBS-busy user is suspended.
+    fn recall<C: Channel>(&mut self, to_b: &mut C, request: ARecord) -> Answer
+        ensures { Did C.Channel.capacity C.Channel.waiting (on_free_waiting (fit_of self.old) request (ccbs_busy (fit_of self.old) request.user)) result self.old to_b.old self.new to_b.new }
+    {
+        if self.is_ccbs_busy(request.user) {
+            return self.suspend(to_b, request);
+        }
+        self.update(ARecord {
+            state: AState::Recalled,
+            t4: self.settings.t4 as u16,
+            ..request
+        });
+        Answer::Recall { tn: request.tn }
+    }
+
     // The step of a record at a message, by its state and the message's kind.
     fn step<C: Channel>(&mut self, to_b: &mut C, request: ARecord, values: Values) -> Answer
-        requires { a_fit (a_of self.old) ≡ true }
-        ensures did { Did (on_record (a_of self.old) request values values.kind) (C.Channel.capacity to_b.old) (C.Channel.waiting to_b.old) result self.old self.new (C.Channel.waiting to_b.new) }
-        ensures capacity { C.Channel.capacity to_b.new ≡ C.Channel.capacity to_b.old }
+        ensures { Did C.Channel.capacity C.Channel.waiting (on_record (fit_of self.old) request values values.kind) result self.old to_b.old self.new to_b.new }
     {
         let tn = request.tn;
         match (request.state, values.kind) {
             (AState::Requested, Kind::Result) => {
-                let t3 = self.settings.t3 as u16;
                 self.update(ARecord {
                     state: AState::Waiting,
                     t2: 0,
-                    t3,
+                    t3: self.settings.t3 as u16,
                     ..request
                 });
                 Answer::Accepted { tn }
             }
-            (AState::Waiting, Kind::RemoteUserFree) if self.is_ccbs_busy(request.user) => {
-                self.suspend(to_b, request)
-            }
-            (AState::Waiting, Kind::RemoteUserFree) => {
-                let t4 = self.settings.t4 as u16;
-                self.update(ARecord {
-                    state: AState::Recalled,
-                    t4,
-                    ..request
-                });
-                Answer::Recall { tn }
-            }
-            (_, Kind::Error | Kind::Cancel) => self.end(tn, Cause::of(values.cause)),
+            (AState::Waiting, Kind::RemoteUserFree) => self.recall(to_b, request),
+            (_, Kind::Error | Kind::Cancel) => self.end(tn, Cause::from(values.cause)),
             (_, Kind::CallDone) => {
                 self.set_line(request.user, true);
                 self.end(tn, Cause::Completed)
@@ -62,13 +61,12 @@ impl<'m> ASide<'m> {
 
     // A message for a transaction that does not stand.
     fn stray<C: Channel>(&mut self, to_b: &mut C, values: Values) -> Answer
-        ensures did { Did (on_stray (a_of self.old) values values.kind) (C.Channel.capacity to_b.old) (C.Channel.waiting to_b.old) result self.old self.new (C.Channel.waiting to_b.new) }
-        ensures capacity { C.Channel.capacity to_b.new ≡ C.Channel.capacity to_b.old }
+        ensures { Did C.Channel.capacity C.Channel.waiting (on_stray (fit_of self.old) values values.kind) result self.old to_b.old self.new to_b.new }
     {
         let tn = values.tn;
         match values.kind {
             Kind::Result | Kind::RemoteUserFree => {
-                post(to_b, cancelling(tn, 0));
+                post(to_b, Values::cancelling(tn, Cause::NotGiven));
                 Answer::Stray { tn }
             }
             _ => Answer::Nothing { tn },
@@ -77,28 +75,24 @@ impl<'m> ASide<'m> {
 
     // Receives a message.
     pub(crate) fn receive<C: Channel>(&mut self, to_b: &mut C, message: &Message) -> Answer
-        requires { a_fit (a_of self.old) ≡ true }
-        ensures did { Did (a_receiving (a_of self.old) message.now.values) (C.Channel.capacity to_b.old) (C.Channel.waiting to_b.old) result self.old self.new (C.Channel.waiting to_b.new) }
-        ensures capacity { C.Channel.capacity to_b.new ≡ C.Channel.capacity to_b.old }
+        ensures { Did C.Channel.capacity C.Channel.waiting (a_receiving (fit_of self.old) message.now.values) result self.old to_b.old self.new to_b.new }
     {
         let values = message.values();
-        let Some(place) = find(self.records.all(), values.tn) else {
-            return self.stray(to_b, values);
-        };
-        let request = self.records.all()[place];
-        self.step(to_b, request, values)
+        match tables::standing(self.records.all(), values.tn) {
+            Some(request) => self.step(to_b, request, values),
+            None => self.stray(to_b, values),
+        }
     }
 
     // Takes back a message that was returned, for a record that stands.
     fn take_back_for<C: Channel>(&mut self, to_b: &mut C, request: ARecord, kind: Kind) -> Answer
-        ensures did { Did (on_returned (a_of self.old) request kind) (C.Channel.capacity to_b.old) (C.Channel.waiting to_b.old) result self.old self.new (C.Channel.waiting to_b.new) }
-        ensures capacity { C.Channel.capacity to_b.new ≡ C.Channel.capacity to_b.old }
+        ensures { Did C.Channel.capacity C.Channel.waiting (on_returned (fit_of self.old) request kind) result self.old to_b.old self.new to_b.new }
     {
         let tn = request.tn;
         match kind {
             Kind::Request => self.end(tn, Cause::LongTermDenial),
             Kind::Call => {
-                post(to_b, cancelling(tn, 0));
+                post(to_b, Values::cancelling(tn, Cause::NotGiven));
                 self.end(tn, Cause::CallReturned)
             }
             _ => Answer::Nothing { tn },
@@ -107,14 +101,12 @@ impl<'m> ASide<'m> {
 
     // Takes back a message that was returned.
     pub(crate) fn take_back<C: Channel>(&mut self, to_b: &mut C, message: &Message) -> Answer
-        ensures did { Did (a_returning (a_of self.old) message.now.values) (C.Channel.capacity to_b.old) (C.Channel.waiting to_b.old) result self.old self.new (C.Channel.waiting to_b.new) }
-        ensures capacity { C.Channel.capacity to_b.new ≡ C.Channel.capacity to_b.old }
+        ensures { Did C.Channel.capacity C.Channel.waiting (a_returning (fit_of self.old) message.now.values) result self.old to_b.old self.new to_b.new }
     {
         let values = message.values();
-        let Some(place) = find(self.records.all(), values.tn) else {
-            return Answer::Nothing { tn: values.tn };
-        };
-        let request = self.records.all()[place];
-        self.take_back_for(to_b, request, values.kind)
+        match tables::standing(self.records.all(), values.tn) {
+            Some(request) => self.take_back_for(to_b, request, values.kind),
+            None => Answer::Nothing { tn: values.tn },
+        }
     }
 }

@@ -4,38 +4,39 @@ ghost use Rattle.waiting_line.specs.Searches.{some};
 ghost use Rattle.a_side.specs.declared.record.ARecord.{ARecord as Request};
 ghost use Rattle.a_side.specs.Rules.{resumable, with_records};
 ghost use Rattle.originating.specs.Words.{engages};
-ghost use Rattle.originating.specs.Calls.{a_of};
+ghost use Rattle.originating.specs.Calls.{fit_of};
 ghost use Rattle.originating.specs.Steps.{Resumed};
 
-use crate::looks::{engaged_users, is_suspended};
-use crate::sent::plain;
-use crate::side::ASide;
+use crate::looks::engaged_users;
+use crate::side::Fit;
 use a_side::{ARecord, AState};
 use channels::{Channel, post};
-use messages::Kind;
+use messages::{Kind, Values};
 
-impl<'m> ASide<'m> {
+impl Fit<'_> {
     // Whether a record is Suspended and its user is not CCBS-busy, where the users engaged by some records are noted.
     fn is_resumable(&self, engaged: &[bool; 256], request: ARecord) -> bool
-        ensures { (rs : List Request) → ((u : ℕ) → u < 256 → slice_index_or engaged.now u false ≡ some (engages u) rs) → result ≡ resumable (with_records (a_of self.now) rs) request }
+        ensures { (rs : List Request) → ((u : ℕ) → u < 256 → slice_index_or engaged.now u false ≡ some (engages u) rs) → result ≡ resumable (with_records (fit_of self.now) rs) request }
     {
-        is_suspended(request.state)
+        request.state == AState::Suspended
             && !self.is_line_busy(request.user)
-            && !engaged[request.user as usize]
+            && !engaged[usize::from(request.user)]
     }
 
     // Resumes every record that may be, in their order: one pass to note who is engaged, one to resume.
     pub(super) fn resume<C: Channel>(&mut self, to_b: &mut C)
-        ensures resumed { Resumed (C.Channel.capacity to_b.old) (C.Channel.waiting to_b.old) self.old self.new (C.Channel.waiting to_b.new) }
-        ensures capacity { C.Channel.capacity to_b.new ≡ C.Channel.capacity to_b.old }
+        ensures { Resumed C.Channel.capacity C.Channel.waiting self.old to_b.old self.new to_b.new }
     {
         let engaged = engaged_users(self.records.all());
         for place in 0..self.records.len() {
-            let mut request = self.records.all()[place];
+            let request = self.records.all()[place];
             if self.is_resumable(&engaged, request) {
-                request.state = AState::Waiting;
-                let _ = self.records.replace(place, request);
-                post(to_b, plain(Kind::Resume, request.tn));
+                let woken = ARecord {
+                    state: AState::Waiting,
+                    ..request
+                };
+                let _ = self.records.replace(place, woken);
+                post(to_b, Values::plain(Kind::Resume, request.tn));
             }
         }
     }

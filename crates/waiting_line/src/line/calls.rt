@@ -1,7 +1,6 @@
-ghost use Rattle.std.specs.Prelude.{◌≡◌, ◌≤◌, [], ◌++◌, map, length, drop, slice_set};
+ghost use Rattle.std.specs.Prelude.{◌≡◌, ◌≤◌, [], map, length, drop, slice_set};
 ghost use Rattle.std.specs.List.{remove};
-ghost use Rattle.waiting_line.specs.Gaps.{over};
-ghost use Rattle.waiting_line.specs.Lines.{memory, items, spare, capacity, full, put_answer, put_left, put_all_answer, put_all_left, place_answer, read_answer};
+ghost use Rattle.waiting_line.specs.Lines.{memory, items, capacity, Holds, full, put_answer, put_left, put_all_answer, put_all_left, place_answer, read_answer};
 
 use crate::gap::close_gap;
 use crate::line::WaitingLine;
@@ -22,7 +21,7 @@ impl<'m, T: Copy> WaitingLine<'m, T> {
         ensures length { result ≡ length (items self.now) }
         ensures within { result ≤ capacity self.now }
     {
-        self.used.min(self.places.len())
+        self.all().len()
     }
 
     /// How many places it has.
@@ -36,55 +35,46 @@ impl<'m, T: Copy> WaitingLine<'m, T> {
     pub fn is_full(&self) -> bool
         ensures { result ≡ full (capacity self.now) (items self.now) }
     {
-        self.len() == self.places()
+        self.used == self.places.len()
     }
 
     /// The elements, in order.
     pub fn all(&self) -> &[T]
         ensures { result.now ≡ items self.now }
     {
-        &self.places[..self.len()]
+        &self.places[..self.used]
     }
 
     /// The element at place `i`; denied with 10.
     pub fn read(&self, i: usize) -> Result<T, Denial>
         ensures { result ≡ read_answer (items self.now) i }
     {
-        match self.all().get(i) {
-            Some(x) => Ok(*x),
-            None => Err(Denial::NoneThere),
-        }
+        self.all().get(i).copied().ok_or(Denial::NoneThere)
     }
 
     /// Puts `x` at the end; denied with 13.
     pub fn put(&mut self, x: T) -> Result<(), Denial>
         ensures answer { result ≡ put_answer (capacity self.old) (items self.old) }
-        ensures items { items self.new ≡ put_left (capacity self.old) (items self.old) x }
-        ensures memory { memory self.new ≡ slice_set (memory self.old) (length (items self.old)) x }
-        ensures capacity { capacity self.new ≡ capacity self.old }
+        ensures holds { Holds self.old (put_left (capacity self.old) (items self.old) x) self.new }
     {
         if self.is_full() {
             return Err(Denial::NoFreePlace);
         }
-        let len = self.len();
-        self.places[len] = x;
-        self.used = len + 1;
+        self.places[self.used] = x;
+        self.used += 1;
         Ok(())
     }
 
     /// Puts all of `xs` at the end, in order; denied with 13 if they do not all fit.
     pub fn put_all(&mut self, xs: &[T]) -> Result<(), Denial>
         ensures answer { result ≡ put_all_answer (capacity self.old) (items self.old) xs.now }
-        ensures items { items self.new ≡ put_all_left (capacity self.old) (items self.old) xs.now }
-        ensures memory { memory self.new ≡ over (put_all_left (capacity self.old) (items self.old) xs.now) (memory self.old) }
-        ensures capacity { capacity self.new ≡ capacity self.old }
+        ensures holds { Holds self.old (put_all_left (capacity self.old) (items self.old) xs.now) self.new }
     {
-        let len = self.len();
-        if xs.len() > self.places() - len {
+        if xs.len() > self.places.len() - self.used {
             return Err(Denial::NoFreePlace);
         }
-        let end = len + xs.len();
-        self.places[len..end].copy_from_slice(xs);
+        let end = self.used + xs.len();
+        self.places[self.used..end].copy_from_slice(xs);
         self.used = end;
         Ok(())
     }
@@ -92,11 +82,9 @@ impl<'m, T: Copy> WaitingLine<'m, T> {
     /// Puts `x` in the place of the element at `i`; denied with 10.
     pub fn replace(&mut self, i: usize, x: T) -> Result<(), Denial>
         ensures answer { result ≡ place_answer (items self.old) i }
-        ensures items { items self.new ≡ slice_set (items self.old) i x }
-        ensures memory { memory self.new ≡ slice_set (items self.old) i x ++ spare self.old }
-        ensures capacity { capacity self.new ≡ capacity self.old }
+        ensures holds { Holds self.old (slice_set (items self.old) i x) self.new }
     {
-        if i >= self.len() {
+        if i >= self.used {
             return Err(Denial::NoneThere);
         }
         self.places[i] = x;
@@ -106,39 +94,30 @@ impl<'m, T: Copy> WaitingLine<'m, T> {
     /// Removes the element at `i`, and keeps the order of the rest; denied with 10.
     pub fn remove(&mut self, i: usize) -> Result<(), Denial>
         ensures answer { result ≡ place_answer (items self.old) i }
-        ensures items { items self.new ≡ remove (items self.old) i }
-        ensures memory { memory self.new ≡ over (remove (items self.old) i) (memory self.old) }
-        ensures capacity { capacity self.new ≡ capacity self.old }
+        ensures holds { Holds self.old (remove (items self.old) i) self.new }
     {
-        let len = self.len();
-        if i >= len {
+        if i >= self.used {
             return Err(Denial::NoneThere);
         }
-        close_gap(self.places, i, 1, len);
-        self.used = len - 1;
+        close_gap(self.places, i, 1, self.used);
+        self.used -= 1;
         Ok(())
     }
 
     /// Removes the first `n` elements, all if there are fewer, and keeps the order of the rest.
     pub fn remove_first(&mut self, n: usize)
-        ensures items { items self.new ≡ drop n (items self.old) }
-        ensures memory { memory self.new ≡ over (drop n (items self.old)) (memory self.old) }
-        ensures capacity { capacity self.new ≡ capacity self.old }
+        ensures { Holds self.old (drop n (items self.old)) self.new }
     {
-        let len = self.len();
-        close_gap(self.places, 0, n, len);
-        self.used = len.saturating_sub(n);
+        close_gap(self.places, 0, n, self.used);
+        self.used = self.used.saturating_sub(n);
     }
 
     /// One tick for each element.
     pub fn tick(&mut self)
     where
         T: Timed,
-        ensures items { items self.new ≡ map T.Timed.ticked (items self.old) }
-        ensures memory { memory self.new ≡ map T.Timed.ticked (items self.old) ++ spare self.old }
-        ensures capacity { capacity self.new ≡ capacity self.old }
+        ensures { Holds self.old (map T.Timed.ticked (items self.old)) self.new }
     {
-        let len = self.len();
-        tick_all(&mut self.places[0..len]);
+        tick_all(&mut self.places[..self.used]);
     }
 }

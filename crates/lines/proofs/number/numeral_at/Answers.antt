@@ -1,43 +1,29 @@
-use Rattle.std.proofs.Common.{◌≡◌, ℕ, ◌+◌, ◌-◌, List, length, get_or, take, drop, sym, ap, ◌∙◌, subst, add-zero, arith, length-drop}
-use Rattle.std.proofs.lemmas.List.{get_or-drop, length-take-le}
+use Rattle.std.proofs.Common.{◌≡◌, ℕ, ◌-◌, ◌<◌, List, length, take, drop, take_while, min, refl, ap, ◌∙◌, arith, rules}
+use Rattle.std.specs.Char.{is_ascii_digit}
+use Rattle.std.specs.List.{prefix_len, AllPass}
+use Rattle.std.proofs.lemmas.List.{drop_min, get_or-take, take_rest}
+use Rattle.std.proofs.lemmas.List.Folds.{length-prefix_len}
+use Rattle.std.proofs.lemmas.List.Sums.{prefix_len_passes}
 use Rattle.std.proofs.lemmas.Bool.Decides.{nat_tests}
-use Rattle.lines.specs.Numbers.{run}
-use Rattle.lines.proofs.Runs.{run_le, run_take}
+use Rattle.lines.proofs.Results.{ok_mapped, err_mapped}
 use Rattle.lines.proofs.number.numeral_at.Goals as goal
 
-first : (line : List ℕ) (from : ℕ) → get_or (drop from line) 0 0 ≡ get_or line from 0
-first line from = get_or-drop from line 0 0 ∙ ap (λ i. get_or line i 0) (add-zero from)
+-- the rest of the line, and the digits in front of it
+rest_is : (line : List ℕ) (from at : ℕ) → at ≡ min from (length line) → take (length line - at) (drop at line) ≡ drop from line
+rest_is line from at e = rw e (search (rules, take_rest, drop_min))
 
--- the part from `from` to the end of the run
-digits : (rest : List ℕ) (from end : ℕ) → end ≡ from + run rest → end - from ≡ run rest
-digits rest from end e = omega arith
+digits_are : (line : List ℕ) (from at n : ℕ) → at ≡ min from (length line) → n ≡ prefix_len is_ascii_digit (take (length line - at) (drop at line)) → take n (take (length line - at) (drop at line)) ≡ take_while is_ascii_digit (drop from line)
+digits_are line from at n place count = rw (count, rest_is line from at place) refl
 
-pub bounds-line-from : goal.bounds-line-from
-bounds-line-from c = omega (arith, run_le (drop c.args.from c.args.line.now), length-drop c.args.from c.args.line.now)
+digits_pass : (xs : List ℕ) → AllPass is_ascii_digit (take_while is_ascii_digit xs)
+digits_pass xs k d h =
+    let within : k < prefix_len is_ascii_digit xs = omega (arith, length-prefix_len is_ascii_digit xs, h) in
+    ap is_ascii_digit (get_or-take (prefix_len is_ascii_digit xs) xs k d within) ∙ prefix_len_passes is_ascii_digit xs k d within
 
-pub returns-then-line-from-eq48 : goal.returns-then-line-from-eq48
-returns-then-line-from-eq48 c = let f = first c.args.line.now c.args.from in record { value = grind (arith, nat_tests); within = tt }
+pub number_of-requires : goal.number_of-requires
+number_of-requires c = rw (digits_are c.args.line.now c.args.from c.min.result c.digits_len.result c.min.ensures c.digits_len.ensures) (digits_pass (drop c.args.from c.args.line.now))
 
-pub slice_bounds-value_of-end : goal.slice_bounds-value_of-end
-slice_bounds-value_of-end c = omega (arith, run_le (drop c.args.from c.args.line.now), length-drop c.args.from c.args.line.now)
-
-pub value_of-requires : goal.value_of-requires
-value_of-requires c =
-    let rest : List ℕ = drop c.args.from c.args.line.now in
-    let P : ℕ → Type 0 = λ n. run (take n rest) ≡ length (take n rest) in
-    subst P (sym (digits rest c.args.from c.digits_end-end.result c.digits_end-end.ensures))
-    (run_take rest ∙ sym (length-take-le (run rest) rest (run_le rest)))
-
-pub returns-in-Some : goal.returns-in-Some
-returns-in-Some c =
-    let f = first c.args.line.now c.args.from in
-    let told = rw (digits (drop c.args.from c.args.line.now) c.args.from c.digits_end-end.result c.digits_end-end.ensures) at c.in-Some.ensures in
-    let size = length-drop c.args.from c.args.line.now in
-    let few = run_le (drop c.args.from c.args.line.now) in
-    record { value = grind (arith, nat_tests); within = (grind (arith, nat_tests), omega arith, omega arith) }
-
-pub returns-in-None : goal.returns-in-None
-returns-in-None c =
-    let f = first c.args.line.now c.args.from in
-    let told = rw (digits (drop c.args.from c.args.line.now) c.args.from c.digits_end-end.result c.digits_end-end.ensures) at c.in-None.ensures in
-    record { value = grind (arith, nat_tests); within = tt }
+pub returns-clause-value : goal.returns-clause-value
+returns-clause-value c =
+    let digits = digits_are c.args.line.now c.args.from c.min.result c.digits_len.result c.min.ensures c.digits_len.ensures in
+    rw (← digits) (search (rules, ok_mapped, err_mapped))

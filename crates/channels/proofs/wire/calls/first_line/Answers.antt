@@ -1,11 +1,10 @@
-use Rattle.channels.proofs.FirstLines.{end_here, end_later, end_none}
+use Rattle.std.proofs.Common.{rules, ap, ◌∙◌}
+use Rattle.std.proofs.lemmas.Fn.{always_returns_same}
+use borrow.Author.Tests.{tests}
+use Rattle.channels.proofs.FirstLines.{part_or_all}
 use Rattle.channels.proofs.wire.calls.first_line.Goals as goal
 
-pub returns-then-byte-eq10 : goal.returns-then-byte-eq10
-returns-then-byte-eq10 c = end_here _ _ c.loop-i.invariant c.loop-i-test.true c.if-byte-eq10.true
-
-pub loop-i-preserved : goal.loop-i-preserved
-loop-i-preserved c = end_later _ _ c.loop-i.invariant c.loop-i-test.true c.if-byte-eq10.false
-
 pub returns : goal.returns
-returns c = end_none _ _ c.loop-i.invariant c.loop-i-test.false
+returns c =
+    ap (λ r. r.now) c.unwrap_or.ensures
+    ∙ part_or_all _ _ _ _ c.args.bytes _ _ c.next.result c.split_inclusive.ensures.rest (always_returns_same _ _ _ (λ a r f k. search (rules, tests))) c.next.ensures.steps

@@ -1,42 +1,22 @@
-use Rattle.std.proofs.Common.{List, length, refl, ap, rules}
-use Rattle.b_side.specs.declared.line.LineFacts.{LineFacts}
-use Rattle.b_side.specs.Rules.{b_expiring, b_expiry_refusal}
-use Rattle.destination.specs.Sides.{b_of}
-use Rattle.destination.specs.Dues.{expiring_by}
-use Rattle.destination.proofs.Dues.{expiring_due, due_lines}
-use Rattle.destination.proofs.Ends.{refused, accepted_as, refused_waiting, accepted_waiting, fit_with, fit_after, same_lines}
+use Rattle.std.proofs.Common.{ap, ◌∙◌}
+use Rattle.b_side.specs.Rules.{BModel, BEffect, b_expiry_refusal, b_expiring, accept}
+use Rattle.destination.specs.Sides.{fit_of}
+use Rattle.destination.proofs.Dues.{expiring_due}
+use Rattle.destination.proofs.Ends.{granted, granted_sent, acted_as, did_accepted, took_as}
 use Rattle.destination.proofs.side.BSide.expiry.Goals as goal
-
-pub returns-in_err-due : goal.returns-in_err-due
-returns-in_err-due g c =
-    let denial = c.in_err-due.ensures.denial in
-    record {
-      came = refused c.args.self.now _ _ _ _ _ c.in_err-due.field-0.0 denial (search rules);
-      waiting = refused_waiting _ _ _ _ _ c.in_err-due.field-0.0 denial;
-      capacity = refl;
-    }
-
-pub settle-requires : goal.settle-requires
-settle-requires g c =
-    let s = b_of c.args.self.now in
-    fit_after s _ _ _ c.expire-answer.ensures.acted.side (ap (λ (ls : List LineFacts). length ls) (due_lines s c.in_ok-due.due)) (fit_with s _ _ c.in_ok-due.ensures.denial)
 
 pub returns : goal.returns
 returns g c =
-    let before = c.args.self.now in
-    let s = b_of before in
-    let cap = g.C.Channel.capacity c.args.to_a.now in
-    let ws = g.C.Channel.waiting c.args.to_a.now in
-    let due = c.in_ok-due.due in
-    let granted = c.in_ok-due.ensures.denial in
-    let did = c.expire-answer.ensures in
-    let same = expiring_due s due c.in_ok-due.ensures.due in
-    let long = ap (λ (ls : List LineFacts). length ls) (due_lines s due) in
+    let ch = g.C.Channel in
+    let before = c.args.to_a.now in
+    let entry = c.args.self.now in
+    let s = c.in-Ok.side in
+    let due = c.in_ok-due.ensures in
+    let refusal = λ (m : BModel). b_expiry_refusal m (ch.capacity before) (ch.waiting before) in
+    let done = λ (m : BModel). accept m (b_expiring m) in
+    let same = expiring_due (fit_of s) c.in_ok-due.due due.due in
+    let sent = ap (λ (e : BEffect). e.sent) same ∙ granted_sent entry s refusal done c.in-Ok.is due.refusal in
     record {
-      came =
-          accepted_as before _ _ (expiring_by s due) _ did.acted
-          (c.settle.ensures s (same_lines s _ _ _ did.acted.side long) c.guards-ran.ensures)
-          (b_expiring s) same cap ws (b_expiry_refusal s cap ws) granted;
-      waiting = accepted_waiting s cap ws _ (b_expiry_refusal s cap ws) (expiring_by s due) (b_expiring s) same did.waiting granted;
-      capacity = did.capacity;
+      came = granted entry s _ refusal done _ c.in-Ok.is due.refusal (did_accepted s _ _ _ (b_expiring (fit_of s)) _ (acted_as s _ _ _ _ same c.expire-answer.ensures.acted) c.guards-ran.ensures c.settle.ensures);
+      took = took_as sent c.expire-answer.ensures.took;
     }
