@@ -4,7 +4,6 @@ use Rattle.std.specs.List.{prefix_len, AllPass}
 use Rattle.std.proofs.lemmas.List.{drop_min, get_or-take, take_rest}
 use Rattle.std.proofs.lemmas.List.Folds.{length-prefix_len}
 use Rattle.std.proofs.lemmas.List.Sums.{prefix_len_passes}
-use Rattle.std.proofs.lemmas.Bool.Decides.{nat_tests}
 use Rattle.lines.proofs.Results.{ok_mapped, err_mapped}
 use Rattle.lines.proofs.number.numeral_at.Goals as goal
 
