@@ -6,7 +6,7 @@ use crate::report::Report;
 use drafts::Draft;
 use std::fmt;
 
-// A line longer than any wire line is at fault within its first 47 bytes, so that no more than these are held.
+// A line longer than any wire line is at fault within its first 47 bytes, so that 64 are enough to hold.
 type Held = Draft<64>;
 
 /// A log as far as it has been read.
