@@ -2,10 +2,16 @@
 
 #![tactic(auto)]
 
+ghost use Rattle.std.specs.Prelude.{length};
+ghost use Rattle.channels.specs.Backplanes.{back_capacity, back_waiting};
+ghost use Rattle.channels.specs.Wires.{wire_capacity, wire_waiting};
+ghost use Rattle.cabinets.specs.Page.{came_by, Counted};
+
 use answers::Denial;
 use came::left_by;
 use channels::{Backplane, Channel, Wire, carry};
 use messages::{Kind, LONGEST, Message, Values, read, write};
+use std::alloc::AllocError;
 use std::io;
 use std::io::{Read, Write};
 use tally::Tally;
@@ -31,6 +37,22 @@ struct Trial<'m> {
 }
 
 impl Trial<'_> {
+    // The whole trial: the log, what stands on the wire then, a carriage each way, and taking once more than they can hold.
+    fn run(
+        &mut self,
+        log: &[u8],
+        wire: &mut Wire<'_>,
+        backplane: &mut Backplane<'_>,
+    ) -> io::Result<()> {
+        self.put_log(log)?;
+        self.show_wire()?;
+        self.carry_over(wire, backplane)?;
+        for _ in 0..=PLACES {
+            self.take()?;
+        }
+        Ok(())
+    }
+
     // Puts every line of the log. A last part that no line end closes is no line.
     fn put_log(&mut self, log: &[u8]) -> io::Result<()> {
         for line in log.split_inclusive(|byte| *byte == b'\n') {
@@ -70,11 +92,9 @@ impl Trial<'_> {
     }
 
     // What both answered, and what that left of them.
-    fn compare(
-        &mut self,
-        backplane: Result<(), Denial>,
-        wire: Result<(), Denial>,
-    ) -> io::Result<()> {
+    fn compare(&mut self, backplane: Result<(), Denial>, wire: Result<(), Denial>) -> io::Result<()>
+        ensures { Counted (came_by backplane (length (back_waiting self.old.backplane)) (back_capacity self.old.backplane)) (came_by wire (length (wire_waiting self.old.wire)) (wire_capacity self.old.wire)) self.old.tally self.new.tally }
+    {
         let backplane = left_by(backplane, &self.backplane);
         let wire = left_by(wire, &self.wire);
         self.tally.count(backplane, wire);
@@ -117,7 +137,8 @@ fn show(page: &mut Vec<u8>, message: Option<Message>) -> io::Result<()> {
     }
 }
 
-fn main(rt: HostRuntime) -> io::Result<()> {
+// An error is told in words, as `anyhow` prints it.
+fn main(rt: HostRuntime) -> anyhow::Result<()> {
     let heap = rt.alloc();
     let mut log = Vec::new(heap);
     rt.stdin().read_to_end(&mut log)?;
@@ -133,16 +154,15 @@ fn main(rt: HostRuntime) -> io::Result<()> {
         tally: Tally::default(),
         page: Vec::new(heap),
     };
-    trial.put_log(log.as_slice())?;
-    trial.show_wire()?;
-    trial.carry_over(
-        &mut Wire::new(few_bytes.as_mut_slice()),
-        &mut Backplane::new(few_records.as_mut_slice()),
-    )?;
-    // Once more than they can hold.
-    for _ in 0..=PLACES {
-        trial.take()?;
-    }
+    // A page is written in memory, so that only memory can be wanting.
+    trial
+        .run(
+            log.as_slice(),
+            &mut Wire::new(few_bytes.as_mut_slice()),
+            &mut Backplane::new(few_records.as_mut_slice()),
+        )
+        .map_err(|_| AllocError)?;
     rt.write_all(trial.page.as_slice())?;
-    println!(rt; "{}", trial.tally)
+    println!(rt; "{}", trial.tally)?;
+    Ok(())
 }
