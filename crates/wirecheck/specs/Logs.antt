@@ -1,6 +1,6 @@
 -- A log as far as it has been read: what is held of the line that is being read, how many lines were messages and how many
--- were none, and the line of the report for each.
-use Rattle.std.specs.Prelude.{ℕ, ◌+◌, ◌-◌, ◌^◌, min, List, [], ◌∷◌, ◌++◌, Ok, Err, Result, codes, decimal}
+-- were none, and the line of the report for each; then what is reported of the bytes of a piece of it, and at its end.
+use Rattle.std.specs.Prelude.{ℕ, ◌+◌, ◌-◌, ◌^◌, ◌==◌, nat_lt, min, cond, List, [], ◌∷◌, ◌++◌, length, fold, Ok, Err, Result, codes, decimal}
 use Rattle.drafts.specs.Drafts.{written, added, added_all}
 use Rattle.messages.specs.declared.values.Values.{Values}
 use Rattle.messages.specs.declared.wire.unread.Unread.{Unread}
@@ -43,3 +43,24 @@ held_with p byte = record { held = added 64 p.held (byte ∷ []); messages = p.m
 -- the count at the end of the report
 abbrev pub count_text : Progress → List ℕ
 count_text p = decimal p.messages ++ (codes " messages, " ++ (decimal p.refused ++ codes " refused"))
+
+-- a log that is being read, and what has been reported of it
+pub record Reading : Type 0 where
+  pub log : Progress
+  pub out : List ℕ
+
+-- the line that is held has ended, and is reported
+abbrev pub line_told : Reading → Reading
+line_told r = record { log = ended r.log; out = r.out ++ told r.log }
+
+-- one more byte; at a line end, which is the byte 10, the line is reported
+abbrev pub byte_read : Reading → ℕ → Reading
+byte_read r byte = cond (byte == 10) (line_told (record { log = held_with r.log byte; out = r.out })) (record { log = held_with r.log byte; out = r.out })
+
+-- the bytes of a piece, one after another
+abbrev pub piece_read : Progress → List ℕ → Reading
+piece_read p = fold byte_read (record { log = p; out = [] })
+
+-- the end of the log: a last line that no line end closes is reported too, and then the count stands in a line of its own
+abbrev pub end_told : Progress → List ℕ
+end_told p = cond (nat_lt 0 (length p.held)) (told p ++ (count_text (ended p) ++ codes "\n")) (count_text p ++ codes "\n")
