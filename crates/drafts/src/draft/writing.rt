@@ -1,7 +1,9 @@
-ghost use Rattle.std.specs.Prelude.{◌≡◌, [], ◌∷◌, decimal};
+ghost use Rattle.std.specs.Prelude.{◌≡◌, [], ◌∷◌, decimal, Some};
+ghost use Rattle.std.specs.Fmt.{debug_list};
 ghost use Rattle.drafts.specs.Drafts.{written, added};
 
 use crate::draft::Draft;
+use std::fmt;
 
 // The digits of the number, after those of its tenth.
 fn digits_of(n: u64) -> Draft<20>
@@ -63,5 +65,14 @@ impl<const N: usize> Draft<N> {
         ensures { written self.new ≡ added N (written self.old) (decimal n) }
     {
         self.push_text(digits_of(n).as_bytes());
+    }
+}
+
+/// The bytes that have been written, in a list; those past them are never shown.
+impl<const N: usize> fmt::Debug for Draft<N> {
+    ghost debug_output = { λ draft. debug_list (λ byte. Some (decimal byte)) (written draft) };
+
+    fn fmt<W: fmt::Write>(&self, f: &mut fmt::Formatter<W>) -> fmt::Result {
+        fmt::Debug::fmt(&self.as_bytes(), f)
     }
 }
