@@ -1,10 +1,8 @@
--- A pass over the lines that changes each by its place, or looks for the first that passes.
-use Rattle.std.proofs.Common.{◌≡◌, ℕ, suc, ◌+◌, ◌-◌, ◌<◌, ◌≤◌, Bool, false, cond, ◌&&◌, eqb, List, [], ◌∷◌, length, get_or, Some, refl, ap, ◌∙◌, arith}
-use Rattle.std.specs.List.{position, position_from, zip}
-use Rattle.std.proofs.lemmas.Iterator.Adapters.{position_from-zero}
+-- A pass over the lines that changes each by its place.
+use Rattle.std.proofs.Common.{◌≡◌, ℕ, suc, ◌+◌, ◌-◌, ◌<◌, ◌≤◌, Bool, false, cond, List, [], ◌∷◌, length, get_or, refl, ap, ◌∙◌, arith}
 use Rattle.b_side.specs.declared.record.BRecord.{BRecord}
 use Rattle.b_side.specs.declared.line.LineFacts.{LineFacts}
-use Rattle.b_side.specs.Rules.{idle, with_guard, guarded, guard_over, watched_line, watched_from, aged_from}
+use Rattle.b_side.specs.Rules.{idle, with_guard, guarded, watched_line, watched_from, aged_from}
 use Rattle.destination.specs.Guards.{runs_at, Told}
 
 -- the first i lines are as f makes them, and the rest is as it was
@@ -56,18 +54,3 @@ module _ (t8 : ℕ) (rs : List BRecord) (was : List LineFacts) (rs' : List BReco
       let l = get_or ls j idle in
       so.before j (omega arith) ∙ ap (λ x. watched_line t8 x (get_or runs j false) l) (told j (omega arith) ∙ ap (runs_at rs was) here)
       ∙ ap (λ x. watched_line t8 (runs_at rs was n) x l) (told' j h ∙ ap (λ m. guarded rs' m l) here))
-
--- the first guard that is over
-abbrev pub is_over : LineFacts × Bool → Bool
-is_over p = p.1 && eqb p.0.guard 0
-
-over_each : (rs : List BRecord) (k : ℕ) (ls : List LineFacts) (runs : List Bool) → length ls ≤ length runs → ((j n : ℕ) → j < length ls → n ≡ k + j → get_or runs j false ≡ guarded rs n (get_or ls j idle)) → position_from is_over k (zip ls runs) ≡ guard_over k rs ls
-over_each rs k [] runs long each = refl
-over_each rs k (l ∷ ls) [] long each = absurd (omega arith)
-over_each rs k (l ∷ ls) (r ∷ runs) long each =
-    let first = each 0 k (omega arith) (omega arith) in
-    let more = over_each rs (k + 1) ls runs (omega arith) (λ j n h e. each (suc j) n (omega arith) (omega arith)) in
-    λ i. cond (first i && eqb l.guard 0) (Some k) (more i)
-
-pub over_told : (rs : List BRecord) (ls : List LineFacts) (runs : List Bool) → length ls ≤ length runs → Told rs ls runs → position is_over (zip ls runs) ≡ guard_over 0 rs ls
-over_told rs ls runs long told = position_from-zero is_over (zip ls runs) ∙ over_each rs 0 ls runs long (λ j n h e. let here : j ≡ n = omega arith in told j h ∙ ap (λ m. guarded rs m (get_or ls j idle)) here)

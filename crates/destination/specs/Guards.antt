@@ -1,19 +1,9 @@
--- What the notes of the guards tell: which records each destination has, and where T8 runs, as the rules have it.
+-- What the notes of the guards tell: where T8 runs, as the rules have it.
 -- The calls note where T8 runs before they change anything and after.
 use Rattle.std.specs.Prelude.{◌≡◌, ℕ, ◌<◌, Bool, false, List, length, slice_index_or}
-use Rattle.waiting_line.specs.Searches.{some}
 use Rattle.b_side.specs.declared.record.BRecord.{BRecord}
 use Rattle.b_side.specs.declared.line.LineFacts.{LineFacts}
-use Rattle.b_side.specs.Rules.{idle, queued_at, recalling_at, guarded}
-use Rattle.destination.specs.declared.side.guards.Standing.{Standing}
-
--- a destination with no records
-abbrev pub none_stand : Standing
-none_stand = record { queued = false; recalling = false }
-
--- the records that stand at destination b
-abbrev pub standing_at : List BRecord → ℕ → Standing
-standing_at rs b = record { queued = some (queued_at b) rs; recalling = some (recalling_at b) rs }
+use Rattle.b_side.specs.Rules.{idle, guarded}
 
 -- the guard of line b runs
 abbrev pub runs_at : List BRecord → List LineFacts → ℕ → Bool

@@ -49,12 +49,12 @@ pub(crate) fn has_same(records: &[ARecord], user: u8, destination: u8, service: 
 }
 
 // How many records the user has.
-#[tactic(auto, using(tables::proofs::Counting::times_count_by))]
 pub(crate) fn count_of(records: &[ARecord], user: u8) -> usize
     ensures { result ≡ times (of_user user) records.now }
 {
-    records
-        .iter()
-        .filter(|request| request.user == user)
-        .count()
+    let mut count = 0;
+    for request in records {
+        count += usize::from(request.user == user);
+    }
+    count
 }

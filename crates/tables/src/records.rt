@@ -2,23 +2,24 @@ ghost use Rattle.std.specs.Prelude.{◌≡◌};
 ghost use Rattle.tables.specs.Tables.{found, first_by, without, replaced};
 ghost use Rattle.waiting_line.specs.Lines.{items, Holds};
 
-use waiting_line::{Record, Timed, WaitingLine, find};
+use waiting_line::{Record, Timed, WaitingLine, find, first_due};
 
 /// The record of the transaction `tn`.
+#[tactic(auto, using(crate::proofs::Dues::at_first, crate::proofs::Dues::none_first))]
 pub fn standing<T: Record + Copy>(records: &[T], tn: u32) -> Option<T>
     ensures { result ≡ found T.Record.transaction_of tn records.now }
 {
-    records
-        .iter()
-        .copied()
-        .find(|record| record.transaction() == tn)
+    let place = find(records, tn)?;
+    Some(records[place])
 }
 
 /// The first record that is due.
+#[tactic(auto, using(crate::proofs::Dues::at_first, crate::proofs::Dues::none_first))]
 pub fn due<T: Timed + Copy>(records: &[T]) -> Option<T>
     ensures { result ≡ first_by T.Timed.due records.now }
 {
-    records.iter().copied().find(|record| record.is_due())
+    let place = first_due(records)?;
+    Some(records[place])
 }
 
 /// Puts a record in the place of the one of its transaction.

@@ -1,57 +1,50 @@
 // The guards T8 of all lines, in one pass over the records and one over the lines.
-ghost use Rattle.std.specs.Prelude.{◌≡◌, ℕ, ◌-◌, ◌<◌, not, ◌&&◌, ◌||◌, if◌then◌else◌, slice_index_or};
-ghost use Rattle.b_side.specs.Rules.{is_queued, is_recalling, with_guard, watched_line, aged_from, guard_over};
+ghost use Rattle.std.specs.Prelude.{◌≡◌, ℕ, ◌-◌, ◌<◌, false, not, ◌&&◌, if◌then◌else◌, slice_index_or};
+ghost use Rattle.waiting_line.specs.Searches.{some};
+ghost use Rattle.b_side.specs.Rules.{queued_at, recalling_at, with_guard, watched_line, aged_from, guard_over};
 ghost use Rattle.destination.specs.declared.side.Fit.{Fit};
-ghost use Rattle.destination.specs.Guards.{none_stand, standing_at, Told};
+ghost use Rattle.destination.specs.Guards.{Told};
 ghost use Rattle.destination.specs.Sides.{fit_of};
 ghost use Rattle.destination.specs.Calls.{Lined, settled};
 
 use crate::side::Fit;
 use b_side::{BRecord, BState, LineFacts};
-use std::array;
 
-/// Which records a destination has.
+/// Which destinations have a Queued record, and which a Recalling one.
 #[derive(Clone, Copy)]
-struct Standing {
-    queued: bool,
-    recalling: bool,
+struct Notes {
+    queued: [bool; 64],
+    recalling: [bool; 64],
 }
 
-impl Standing {
-    // With one more record.
-    fn with(self, state: BState) -> Standing
-        ensures queued { result.queued ≡ (self.queued || is_queued state) }
-        ensures recalling { result.recalling ≡ (self.recalling || is_recalling state) }
-    {
-        Standing {
-            queued: self.queued || state == BState::Queued,
-            recalling: self.recalling || state == BState::Recalling,
-        }
-    }
-
-    // Whether T8 runs: the line is free, no record there is Recalling and one is Queued.
-    fn guards(self, line: &LineFacts) -> bool
-        ensures { result ≡ (not line.now.busy && not self.recalling && self.queued) }
-    {
-        !line.busy && !self.recalling && self.queued
-    }
-}
-
-// Which records each destination has.
-fn noted(records: &[BRecord]) -> [Standing; 64]
-    ensures { (b : ℕ) → b < 64 → slice_index_or result b none_stand ≡ standing_at records.now b }
+// Takes note of each record's destination.
+fn noted(records: &[BRecord]) -> Notes
+    ensures queued { (b : ℕ) → b < 64 → slice_index_or result.queued b false ≡ some (queued_at b) records.now }
+    ensures recalling { (b : ℕ) → b < 64 → slice_index_or result.recalling b false ≡ some (recalling_at b) records.now }
 {
-    let mut notes = [Standing {
-        queued: false,
-        recalling: false,
-    }; 64];
+    let mut notes = Notes {
+        queued: [false; 64],
+        recalling: [false; 64],
+    };
     for record in records {
         if record.destination < 64 {
             let place = usize::from(record.destination);
-            notes[place] = notes[place].with(record.state);
+            match record.state {
+                BState::Queued => notes.queued[place] = true,
+                BState::Recalling => notes.recalling[place] = true,
+                BState::Suspended => {}
+            }
         }
     }
     notes
+}
+
+// Whether T8 runs: the line is free, no record there is Recalling and one is Queued. No test branches, so that many lines
+// are judged at once.
+fn is_guarded(line: &LineFacts, recalling: bool, queued: bool) -> bool
+    ensures { result ≡ (not line.now.busy && not recalling && queued) }
+{
+    !line.busy & !recalling & queued
 }
 
 // A line after a call, by whether its guard ran before and runs after it.
@@ -82,7 +75,11 @@ impl Fit<'_> {
         ensures { Told (fit_of self.now).records (fit_of self.now).lines result }
     {
         let notes = noted(self.records.all());
-        array::from_fn(|b| { self.lines.get(b).is_some_and(|line| notes[b].guards(line)) })
+        let mut runs = [false; 64];
+        for (b, line) in self.lines.iter().enumerate() {
+            runs[b] = is_guarded(line, notes.recalling[b], notes.queued[b]);
+        }
+        runs
     }
 
     // Last in an accepted call: the guards by their rule, where `ran` tells which ran before the call.
@@ -113,9 +110,11 @@ impl Fit<'_> {
         ensures { result ≡ guard_over 0 (fit_of self.now).records (fit_of self.now).lines }
     {
         let runs = self.guards();
-        self.lines
-            .iter()
-            .zip(runs.iter())
-            .position(|(line, &runs)| runs && line.guard == 0)
+        for (b, line) in self.lines.iter().enumerate() {
+            if runs[b] && line.guard == 0 {
+                return Some(b);
+            }
+        }
+        None
     }
 }
