@@ -32,7 +32,7 @@ module _ (w : Wire) where
         let denied : ◌≡◌ {A = Result (Unit {0}) Denial} (Err d) (Ok tt) = e ∙ cond-true (fitting (capacity w.bytes) (items w.bytes) line) (Ok tt) (Err NoFreePlace) fit in
         cc
 
-    line_put : put_all_left (capacity w.bytes) (items w.bytes) line ≡ lines_of (wire_waiting w ++ m.values ∷ [])
+    pub line_put : put_all_left (capacity w.bytes) (items w.bytes) line ≡ lines_of (wire_waiting w ++ m.values ∷ [])
     line_put =
         cond-true (fitting (capacity w.bytes) (items w.bytes) line) (items w.bytes ++ line) (items w.bytes) fit
         ∙ ap (λ l. l ++ line) w.lines ∙ ap (λ l. lines_of (wire_waiting w) ++ l) is ∙ lines_push (wire_waiting w) m.values

@@ -30,20 +30,20 @@ first_message n v more lawful =
     ∙ ap (λ l. v ∷ messages_in n l) (drop_at (line_of v) more (length (line_of v)) refl)
 
 -- the lines of lawful messages say those messages, whatever follows
-messages_back : (vs : List Values) (more : List ℕ) → Lawful vs → messages_in (length vs) (lines_of vs ++ more) ≡ vs
+pub messages_back : (vs : List Values) (more : List ℕ) → Lawful vs → messages_in (length vs) (lines_of vs ++ more) ≡ vs
 messages_back [] more lawful = refl
 messages_back (v ∷ vs) more lawful =
     ap (messages_in (suc (length vs))) (append_assoc (line_of v) (lines_of vs) more) ∙ first_message (length vs) v (lines_of vs ++ more) lawful.0
     ∙ ap (λ l. v ∷ l) (messages_back vs more lawful.1)
 
-messages_settled : (vs : List Values) (n : ℕ) (bs : List ℕ) → Lawful vs → n ≡ length vs → bs ≡ lines_of vs → messages_in n bs ≡ vs
+pub messages_settled : (vs : List Values) (n : ℕ) (bs : List ℕ) → Lawful vs → n ≡ length vs → bs ≡ lines_of vs → messages_in n bs ≡ vs
 messages_settled vs n bs lawful long are =
     ap (λ l. messages_in n l) (are ∙ sym (append-nil (lines_of vs))) ∙ ap (λ k. messages_in k (lines_of vs ++ [])) long ∙ messages_back vs [] lawful
 
 pub lines_push : (vs : List Values) (v : Values) → lines_of vs ++ line_of v ≡ lines_of (vs ++ v ∷ [])
 lines_push vs v = flat_map_more line_of [] vs v
 
-lines_short : (vs : List Values) → Lawful vs → length (lines_of vs) ≤ 46 * length vs
+pub lines_short : (vs : List Values) → Lawful vs → length (lines_of vs) ≤ 46 * length vs
 lines_short [] lawful = omega arith
 lines_short (v ∷ vs) lawful = omega (arith, length-append (line_of v) (lines_of vs), trip.short v lawful.0, lines_short vs lawful.1)
 

@@ -1,15 +1,17 @@
 -- What is due first, by place as by first match.
-use Rattle.std.proofs.Common.{◌≡◌, ℕ, ◌-◌, Bool, false, not, ◌||◌, List, [], ◌∷◌, length, is_some, Some, None, Option, sym, refl, ap, ◌∙◌, arith}
+use Rattle.std.proofs.Common.{◌≡◌, ℕ, ◌-◌, Bool, true, false, cond, not, ◌||◌, List, [], ◌∷◌, length, is_some, Some, None, Option, sym, refl, ap, ◌∙◌, arith}
 use Rattle.std.specs.Prelude.{nat_lt, ◌==◌}
 use Rattle.answers.specs.declared.denial.Denial.{Denial}
 use Rattle.answers.specs.declared.denial.Denial.TheVariants.{OutOfRange, NoneDue, NoFreePlace, TimerDue}
 use Rattle.answers.specs.Rows.{row, upper, sized}
+use Rattle.answers.specs.declared.cause.Cause.TheVariants.{T7Over, T9Over}
+use Rattle.messages.specs.Sent.{cancelling}
 use Rattle.messages.specs.declared.values.Values.{Values}
 use Rattle.tables.specs.Tables.{first_by}
 use Rattle.tables.proofs.Tables.{never_some}
 use Rattle.tables.proofs.Dues.{is_some_find}
 use Rattle.b_side.specs.declared.record.BRecord.{BRecord}
-use Rattle.b_side.specs.Rules.{BModel, b_tick_refusal, b_expiry_refusal, none_free, b_due, guard_over, is_over, any_due, b_expiring, b_expiring_at, recalling_first}
+use Rattle.b_side.specs.Rules.{BModel, b_tick_refusal, b_expiry_refusal, none_free, b_due, guard_over, is_over, any_due, b_expiring, b_expiring_at, recalling_first, recalling_one, queued_at, due7, finishes}
 use Rattle.destination.specs.declared.due.Due.{Due}
 use Rattle.destination.specs.declared.due.Due.TheVariants.{Record, Guard}
 use Rattle.destination.specs.declared.side.Fit.{Fit}
@@ -32,6 +34,19 @@ module _ (s : BModel) where
 
   pub expiring_due : (due : Due) → Some due ≡ due_of s → expiring_by s due ≡ b_expiring s
   expiring_due due e = expiring (first_by b_due s.records) (guard_over 0 s.records s.lines) due refl e
+
+  -- an expiry leaves the lines to the guards
+  pub due_lines : (due : Due) → (expiring_by s due).lines ≡ s.lines
+  due_lines (Record r) = one (due7 r)
+    where
+      one : (b : Bool) → (cond b (finishes s r.tn T7Over (cancelling r.tn 3 ∷ [])) (finishes s r.tn T9Over (cancelling r.tn 4 ∷ []))).lines ≡ s.lines
+      one true = refl
+      one false = refl
+  due_lines (Guard b) = all (first_by (queued_at b) s.records)
+    where
+      all : (o : Option BRecord) → (recalling_one s o).lines ≡ s.lines
+      all (Some r) = refl
+      all None = refl
 
 -- fewer than one is none
 none_of : (n : ℕ) → nat_lt n 1 ≡ (n == 0)

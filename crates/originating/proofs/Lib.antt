@@ -1,3 +1,4 @@
 pub mod Kept
+mod Places
 mod Sent
 mod Wakes

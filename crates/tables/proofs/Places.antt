@@ -1,14 +1,16 @@
--- The rules' words by first match are the code's by place: what is replaced and removed stands at the place of the search.
-use Rattle.std.proofs.Common.{◌≡◌, ℕ, suc, ◌+◌, Bool, true, false, cond, eqb, List, [], ◌∷◌, set, Some, None, Option, sym, refl, ap, ◌∙◌, subst, arith}
+-- The rules' words by first match are the code's by place: what is found, replaced and removed stands at the place of the search.
+use Rattle.std.proofs.Common.{◌≡◌, ℕ, suc, ◌+◌, ◌<◌, Bool, true, false, cond, eqb, List, [], ◌∷◌, length, get_or, set, Some, None, Option, sym, refl, ap, ◌∙◌, subst, arith}
 use Rattle.std.specs.List.{remove}
 use Rattle.tables.proofs.Tables.{never_some}
 use Rattle.waiting_line.specs.Searches.{first_from, first_where}
-use Rattle.tables.specs.Tables.{without, replaced}
+use Rattle.tables.specs.Tables.{found, without, replaced}
 
 module _ {R : Type 0} (tn : R → ℕ) (n : ℕ) where
-  record Placed (rs : List R) (j : ℕ) : Type 0 where
-    replaces : (s : R) → tn s ≡ n → replaced tn s rs ≡ set rs j s
-    removes : without tn n rs ≡ remove rs j
+  pub record Placed (rs : List R) (j : ℕ) : Type 0 where
+    pub within : j < length rs
+    pub finds : (d : R) → found tn n rs ≡ Some (get_or rs j d)
+    pub replaces : (s : R) → tn s ≡ n → replaced tn s rs ≡ set rs j s
+    pub removes : without tn n rs ≡ remove rs j
 
   placed_from : (k : ℕ) (rs : List R) (i : ℕ) → first_from k (λ (x : R). eqb (tn x) n) rs ≡ Some i → (j : ℕ) × (i ≡ k + j) × Placed rs j
   placed_from k [] i e = never_some e
@@ -20,6 +22,8 @@ module _ {R : Type 0} (tn : R → ℕ) (n : ℕ) where
             0,
             omega (arith, same),
             record {
+              within = omega arith;
+              finds = λ d. rw h;
               replaces = λ s q. rw (ap (λ m. eqb (tn r) m) q ∙ h);
               removes = rw h;
             },
@@ -29,18 +33,28 @@ module _ {R : Type 0} (tn : R → ℕ) (n : ℕ) where
             suc p.0,
             omega (arith, p.1),
             record {
+              within = omega (arith, p.2.within);
+              finds = λ d. rw h (p.2.finds d);
               replaces = λ s q. rw (ap (λ m. eqb (tn r) m) q ∙ h) (ap (λ zs. r ∷ zs) (p.2.replaces s q));
               removes = rw h (ap (λ zs. r ∷ zs) p.2.removes);
             },
           )
 
-  placed : (rs : List R) (i : ℕ) → first_from 0 (λ (x : R). eqb (tn x) n) rs ≡ Some i → Placed rs i
+  pub placed : (rs : List R) (i : ℕ) → first_from 0 (λ (x : R). eqb (tn x) n) rs ≡ Some i → Placed rs i
   placed rs i e = let p = placed_from 0 rs i e in subst (λ j. Placed rs j) (let k : p.0 ≡ i = omega (arith, p.1) in k) p.2
 
-  -- where no place was found, there is none to remove or to replace
-  unplaced : (k : ℕ) (rs : List R) → first_from k (λ (x : R). eqb (tn x) n) rs ≡ None → (without tn n rs ≡ rs) × ((s : R) → tn s ≡ n → replaced tn s rs ≡ rs)
-  unplaced k [] e = (refl, λ s q. refl)
+  pub unplaced : (k : ℕ) (rs : List R) → first_from k (λ (x : R). eqb (tn x) n) rs ≡ None → found tn n rs ≡ None
+  unplaced k [] e = refl
   unplaced k (r ∷ rs) e = go (eqb (tn r) n) refl e (unplaced (k + 1) rs)
+    where
+      go : (b : Bool) → eqb (tn r) n ≡ b → cond b (Some k) (first_from (k + 1) (λ (x : R). eqb (tn x) n) rs) ≡ None → (first_from (k + 1) (λ (x : R). eqb (tn x) n) rs ≡ None → found tn n rs ≡ None) → cond (eqb (tn r) n) (Some r) (found tn n rs) ≡ None
+      go true h f ih = never_some (sym f)
+      go false h f ih = rw h (ih f)
+
+  -- where no place was found, nothing is removed or replaced
+  untouched : (k : ℕ) (rs : List R) → first_from k (λ (x : R). eqb (tn x) n) rs ≡ None → (without tn n rs ≡ rs) × ((s : R) → tn s ≡ n → replaced tn s rs ≡ rs)
+  untouched k [] e = (refl, λ s q. refl)
+  untouched k (r ∷ rs) e = go (eqb (tn r) n) refl e (untouched (k + 1) rs)
     where
       go : (b : Bool) → eqb (tn r) n ≡ b → cond b (Some k) (first_from (k + 1) (λ (x : R). eqb (tn x) n) rs) ≡ None → (first_from (k + 1) (λ (x : R). eqb (tn x) n) rs ≡ None → (without tn n rs ≡ rs) × ((s : R) → tn s ≡ n → replaced tn s rs ≡ rs)) → (without tn n (r ∷ rs) ≡ r ∷ rs) × ((s : R) → tn s ≡ n → replaced tn s (r ∷ rs) ≡ r ∷ rs)
       go true h f ih = never_some (sym f)
@@ -55,11 +69,11 @@ module _ {R : Type 0} (tn : R → ℕ) (n : ℕ) where
     removed_at i e = sym (placed rs i (found_by (Some i) e)).removes
 
     pub removed_nowhere : None ≡ first_where (λ (x : R). eqb (tn x) n) seen → rs ≡ without tn n rs
-    removed_nowhere e = sym (unplaced 0 rs (found_by None e)).0
+    removed_nowhere e = sym (untouched 0 rs (found_by None e)).0
 
     module _ (s : R) (own : n ≡ tn s) where
       pub replaced_at : (i : ℕ) → Some i ≡ first_where (λ (x : R). eqb (tn x) n) seen → set rs i s ≡ replaced tn s rs
       replaced_at i e = sym ((placed rs i (found_by (Some i) e)).replaces s (sym own))
 
       pub replaced_nowhere : None ≡ first_where (λ (x : R). eqb (tn x) n) seen → rs ≡ replaced tn s rs
-      replaced_nowhere e = sym ((unplaced 0 rs (found_by None e)).1 s (sym own))
+      replaced_nowhere e = sym ((untouched 0 rs (found_by None e)).1 s (sym own))

@@ -9,7 +9,7 @@ use Rattle.waiting_line.specs.Gaps.{over, closed}
 use Rattle.waiting_line.specs.Lines.{memory, items, capacity, Holds}
 
 module _ {X : Type 0} (u : ℕ) (xs : List X) where
-  rest_held : (n : ℕ) → n ≡ length (take u xs) → drop n xs ≡ drop u xs
+  pub rest_held : (n : ℕ) → n ≡ length (take u xs) → drop n xs ≡ drop u xs
   rest_held n held =
       let k = length-take u xs in
       ⊎_elim
