@@ -2,10 +2,13 @@
 
 #![tactic(auto)]
 
-ghost use Rattle.std.specs.Prelude.{length};
+ghost use Rattle.std.specs.Prelude.{◌≡◌, ◌++◌, OnOk};
+ghost use Rattle.messages.specs.Parts.{reading_of};
+ghost use Rattle.channels.specs.Meaning.{rest, seen, Leaves};
 ghost use Rattle.channels.specs.Backplanes.{back_capacity, back_waiting};
 ghost use Rattle.channels.specs.Wires.{wire_capacity, wire_waiting};
-ghost use Rattle.cabinets.specs.Page.{came_by, Counted};
+ghost use Rattle.cabinets.specs.Calls.{back_came, wire_came, line_put, Counted, PutCounted, TakingCounted};
+ghost use Rattle.cabinets.specs.Page.{both_told, put_told, shown, taking_told};
 
 use answers::Denial;
 use came::left_by;
@@ -64,7 +67,12 @@ impl Trial<'_> {
     }
 
     // Puts the message of a line on both channels. A line that is no message goes on neither.
-    fn put_line(&mut self, line: &[u8]) -> io::Result<()> {
+    fn put_line(&mut self, line: &[u8]) -> io::Result<()>
+        ensures backplane { OnOk result (Leaves back_capacity back_waiting self.old.backplane (line_put (reading_of line.now) (back_capacity self.old.backplane) (back_waiting self.old.backplane)) self.new.backplane) }
+        ensures wire { OnOk result (Leaves wire_capacity wire_waiting self.old.wire (line_put (reading_of line.now) (wire_capacity self.old.wire) (wire_waiting self.old.wire)) self.new.wire) }
+        ensures page { OnOk result (self.new.page.items ≡ put_told self.old.page.items line.now (reading_of line.now) self.old.backplane self.old.wire) }
+        ensures tally { OnOk result (PutCounted (reading_of line.now) self.old.backplane self.old.wire self.old.tally self.new.tally) }
+    {
         self.page.write_all(b"put ")?;
         self.page.write_all(line)?;
         match read(line) {
@@ -81,7 +89,12 @@ impl Trial<'_> {
     }
 
     // Takes from both channels.
-    fn take(&mut self) -> io::Result<()> {
+    fn take(&mut self) -> io::Result<()>
+        ensures backplane { OnOk result (Leaves back_capacity back_waiting self.old.backplane (rest (back_waiting self.old.backplane)) self.new.backplane) }
+        ensures wire { OnOk result (Leaves wire_capacity wire_waiting self.old.wire (rest (wire_waiting self.old.wire)) self.new.wire) }
+        ensures page { OnOk result (self.new.page.items ≡ taking_told self.old.page.items self.old.backplane self.old.wire) }
+        ensures tally { OnOk result (TakingCounted self.old.backplane self.old.wire self.old.tally self.new.tally) }
+    {
         let first = self.wire.look();
         self.tally.compare(&self.backplane.look(), &first);
         self.page.write_all(b"take ")?;
@@ -93,7 +106,10 @@ impl Trial<'_> {
 
     // What both answered, and what that left of them.
     fn compare(&mut self, backplane: Result<(), Denial>, wire: Result<(), Denial>) -> io::Result<()>
-        ensures { Counted (came_by backplane (length (back_waiting self.old.backplane)) (back_capacity self.old.backplane)) (came_by wire (length (wire_waiting self.old.wire)) (wire_capacity self.old.wire)) self.old.tally self.new.tally }
+        ensures backplane { self.new.backplane ≡ self.old.backplane }
+        ensures wire { self.new.wire ≡ self.old.wire }
+        ensures page { OnOk result (self.new.page.items ≡ both_told self.old.page.items (back_came backplane self.old.backplane) (wire_came wire self.old.wire)) }
+        ensures tally { Counted (back_came backplane self.old.backplane) (wire_came wire self.old.wire) self.old.tally self.new.tally }
     {
         let backplane = left_by(backplane, &self.backplane);
         let wire = left_by(wire, &self.wire);
@@ -130,7 +146,9 @@ fn carry_and_show<P: Channel, C: Channel>(
 }
 
 // A message as its line.
-fn show(page: &mut Vec<u8>, message: Option<Message>) -> io::Result<()> {
+fn show(page: &mut Vec<u8>, message: Option<Message>) -> io::Result<()>
+    ensures { OnOk result (page.new.items ≡ page.old.items ++ shown (seen message)) }
+{
     match message {
         Some(message) => page.write_all(write(&message).as_bytes()),
         None => page.write_all(b"nothing\n"),
